@@ -1,0 +1,2 @@
+// Scrambler, tail and encoder.
+ghost use mathlib.Core.Path.{_≡_};

@@ -1,0 +1,35 @@
+-- The interleaver (5.4), by the sent bits per symbol S and the bits per carrier b.
+--   unit         s, the greater of 1 and half the bits per carrier
+--   placeInSymbol  where bit k of a symbol goes
+--   seated       the symbol when its first n bits have gone to their places: entry j is the bit that stands at j
+--   interleaver  the same in every symbol
+-- Assumes nothing.
+use Prim.Native.Nat.{ℕ, zero, suc, _+_, _-_, _*_, _/_, _%_, max}
+use mathlib.Core.List.{List}
+use lib.ListN.{set, replicate}
+use Rattle.places.specs.Selection.{Selection, blocks}
+
+-- s, the greater of 1 and half the bits per carrier
+unfoldable pub unit : ℕ → ℕ
+unit b = max 1 (b / 2)
+
+-- bit k goes to i
+unfoldable pub firstStep : ℕ → ℕ → ℕ
+firstStep S k = S / 16 * (k % 16) + k / 16
+
+-- and i to j
+unfoldable pub secondStep : ℕ → ℕ → ℕ → ℕ
+secondStep S s i = s * (i / s) + (i + S - 16 * i / S) % s
+
+-- where bit k of a symbol goes
+unfoldable pub placeInSymbol : ℕ → ℕ → ℕ → ℕ
+placeInSymbol S b k = secondStep S (unit b) (firstStep S k)
+
+-- the symbol when its first n bits have gone to their places
+unfoldable pub seated : ℕ → ℕ → ℕ → List ℕ
+seated S b zero = replicate S 0
+seated S b (suc n) = set (seated S b n) (placeInSymbol S b n) n
+
+-- the same in every symbol
+unfoldable pub interleaver : ℕ → ℕ → Selection
+interleaver S b = blocks (seated S b S) S

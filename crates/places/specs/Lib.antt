@@ -1,0 +1,4 @@
+pub mod Selection
+pub mod Puncture
+pub mod Interleaver
+pub mod Trains

@@ -1,0 +1,90 @@
+-- Groups of bits and their levels (5.5, table 5).
+--   _gives_      an entry of table 5: some bits and their level
+--   axisI, axisQ table 5 for each axis, in its order; BPSK has no bits on Q
+--   level        what table 5 gives, 0 where it gives nothing
+--   widthQ       a group's bits for Q: the last ones
+--   levelI, levelQ  the levels of a group's value, its earliest bit the highest
+--   group        the value of the b bits of one carrier
+-- Assumes nothing.
+use Prim.Native.Nat.{ℕ, zero, suc, _+_, _*_, _/_, _%_, _^_}
+use mathlib.Core.Bool.{Bool}
+use mathlib.Core.List.{List, [], _∷_}
+use lib.IntN.{ℤ, pos, negℤ, _*ℤ_}
+use lib.Dec.{eqb}
+use lib.ListN.{getD}
+use Rattle.laws.specs.Lists.{choose}
+use Rattle.modes.specs.declared.Constellation.{Constellation}
+use Rattle.modes.specs.declared.Constellation.the-variants.{Bpsk, Qpsk, Qam16, Qam64}
+
+infix 20 _gives_
+-- an entry of table 5: some bits and their level
+pub data Entry : Type 0 where
+  _gives_ : ℕ → ℤ → Entry
+
+-- a level below zero
+abbrev pub minus : ℕ → ℤ
+minus n = negℤ (pos n)
+
+-- one bit
+unfoldable pub one : List Entry
+one = (0 gives minus 1) ∷ (1 gives pos 1) ∷ []
+
+-- two bits
+unfoldable pub two : List Entry
+two = (0b00 gives minus 3) ∷ (0b01 gives minus 1) ∷ (0b11 gives pos 1) ∷ (0b10 gives pos 3) ∷ []
+
+-- three bits
+unfoldable pub three : List Entry
+three =
+    (0b000 gives minus 7)
+    ∷ (0b001 gives minus 5)
+    ∷ (0b011 gives minus 3)
+    ∷ (0b010 gives minus 1)
+    ∷ (0b110 gives pos 1)
+    ∷ (0b111 gives pos 3)
+    ∷ (0b101 gives pos 5)
+    ∷ (0b100 gives pos 7)
+    ∷ []
+
+-- table 5 for I
+unfoldable pub axisI : Constellation → List Entry
+axisI Bpsk = one
+axisI Qpsk = one
+axisI Qam16 = two
+axisI Qam64 = three
+
+-- table 5 for Q, on which BPSK has no bits
+unfoldable pub axisQ : Constellation → List Entry
+axisQ Bpsk = []
+axisQ Qpsk = one
+axisQ Qam16 = two
+axisQ Qam64 = three
+
+-- what table 5 gives for some bits, 0 where it gives nothing
+unfoldable pub level : List Entry → ℕ → ℤ
+level [] v = pos 0
+level ((b gives l) ∷ es) v = choose (eqb v b) l (level es v)
+
+-- how many of a group's bits, the last ones, are for Q
+unfoldable pub widthQ : Constellation → ℕ
+widthQ Bpsk = 0
+widthQ Qpsk = 1
+widthQ Qam16 = 2
+widthQ Qam64 = 3
+
+-- the level on I of a group's value, its earliest bit the highest
+unfoldable pub levelI : Constellation → ℕ → ℤ
+levelI c g = level (axisI c) (g / 2 ^ widthQ c)
+
+-- the level on Q
+unfoldable pub levelQ : Constellation → ℕ → ℤ
+levelQ c g = level (axisQ c) (g % 2 ^ widthQ c)
+
+-- the value of the b bits from `from` on, the earliest the highest
+unfoldable pub valueOf : List ℕ → ℕ → ℕ → ℕ
+valueOf bits from zero = 0
+valueOf bits from (suc b) = 2 * valueOf bits from b + getD bits (from + b) 0
+
+-- the value of the b bits of carrier c
+unfoldable pub group : ℕ → List ℕ → ℕ → ℕ
+group b bits c = valueOf bits (b * c) b

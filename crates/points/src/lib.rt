@@ -1,0 +1,2 @@
+// Points.
+ghost use mathlib.Core.Path.{_≡_};
