@@ -1,3 +1,4 @@
 pub mod Modes
 pub mod Sizes
 pub mod Refusals
+pub mod Description

@@ -1,17 +1,17 @@
--- The modes: table 1, and the paper's number for each pair of enums.
+-- The modes: table 1, which gives each number its constellation and rate, and the values of these.
 --   Row, table1   document 01's table, a row to a mode, in its columns
 --   rowOf         the row of a mode's number; for any other number the row of no mode
 --   constellationOf, rateOf, bits, sent, info   the columns, by a mode's number
---   number        the number of a constellation and a rate, 0 for the five pairs that are no mode
+--   bitsOf        a constellation's bits per carrier
+--   infoOf        a pair's information bits per symbol
 -- Assumes nothing.
-use Prim.Native.Nat.{ℕ}
+use Prim.Native.Nat.{ℕ, _*_}
 use mathlib.Core.List.{List, [], _∷_}
 use lib.ListN.{getD}
 use Rattle.modes.specs.declared.Constellation.{Constellation}
 use Rattle.modes.specs.declared.Constellation.the-variants.{Bpsk, Qpsk, Qam16, Qam64}
 use Rattle.modes.specs.declared.Rate.{Rate}
 use Rattle.modes.specs.declared.Rate.the-variants.{Half, NineSixteenths, ThreeQuarters}
-use Rattle.modes.specs.declared.Mode.{Mode}
 
 -- constellation, rate, bits per carrier, sent bits per symbol, information bits per symbol
 pub data Row : Type 0 where
@@ -72,21 +72,15 @@ sent k = sentIn (rowOf k)
 unfoldable pub info : ℕ → ℕ
 info k = infoIn (rowOf k)
 
--- the number of a constellation and a rate, 0 for the five pairs that are no mode
-unfoldable pub numberOf : Constellation → Rate → ℕ
-numberOf Bpsk Half = 1
-numberOf Bpsk NineSixteenths = 0
-numberOf Bpsk ThreeQuarters = 2
-numberOf Qpsk Half = 3
-numberOf Qpsk NineSixteenths = 0
-numberOf Qpsk ThreeQuarters = 4
-numberOf Qam16 Half = 0
-numberOf Qam16 NineSixteenths = 5
-numberOf Qam16 ThreeQuarters = 6
-numberOf Qam64 Half = 0
-numberOf Qam64 NineSixteenths = 0
-numberOf Qam64 ThreeQuarters = 7
+-- a constellation's bits per carrier: table 1's column, which does not go by the rate
+abbrev pub bitsOf : Constellation → ℕ
+bitsOf Bpsk = 1
+bitsOf Qpsk = 2
+bitsOf Qam16 = 4
+bitsOf Qam64 = 6
 
--- the paper's number of a mode
-unfoldable pub number : Mode → ℕ
-number m = numberOf (m .constellation) (m .rate)
+-- a pair's information bits per symbol: that part of its sent bits, 48 for each bit per carrier, which the rate says
+abbrev pub infoOf : Constellation → Rate → ℕ
+infoOf c Half = 24 * bitsOf c
+infoOf c NineSixteenths = 27 * bitsOf c
+infoOf c ThreeQuarters = 36 * bitsOf c

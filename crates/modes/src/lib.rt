@@ -1,6 +1,12 @@
 // The modes of document 01 (000, table 1), the description of a train, its sizes, and the refusals 1 to 6.
-// The numbers of a call are tested here; what has passed is a Train, whose mode is two enums.
+// The numbers of a call are tested here, in the table's order; what has passed is a Train, whose mode is two enums.
+// Lengths of slices, and what stands in them, are tested by the calls.
 ghost use mathlib.Core.Path.{_≡_};
+ghost use Prim.Native.Nat.{_*_, _<_, _≤_, _/_};
+ghost use Rattle.laws.specs.Ladder.{ladder};
+ghost use Rattle.modes.specs.Modes.{constellationOf, rateOf, bitsOf, info, infoOf};
+ghost use Rattle.modes.specs.Description.{Describes};
+ghost use Rattle.modes.specs.Refusals.{lengths, sized, described};
 
 pub enum Constellation {
     Bpsk,
@@ -26,4 +32,114 @@ pub struct Train {
     pub counter: u32,
     pub n: usize,
     pub a: usize,
+}
+
+// The mode of a number. A number that is no mode's gives a pair that is no mode.
+pub fn mode_of(number: u32) -> Mode
+    ensures { λ r. ⌜ (r .constellation ≡ constellationOf number) × (r .rate ≡ rateOf number) ⌝ }
+{
+    match number {
+        1 => Mode { constellation: Constellation::Bpsk, rate: Rate::Half },
+        2 => Mode { constellation: Constellation::Bpsk, rate: Rate::ThreeQuarters },
+        3 => Mode { constellation: Constellation::Qpsk, rate: Rate::Half },
+        4 => Mode { constellation: Constellation::Qpsk, rate: Rate::ThreeQuarters },
+        5 => Mode { constellation: Constellation::Qam16, rate: Rate::NineSixteenths },
+        6 => Mode { constellation: Constellation::Qam16, rate: Rate::ThreeQuarters },
+        7 => Mode { constellation: Constellation::Qam64, rate: Rate::ThreeQuarters },
+        _ => Mode { constellation: Constellation::Qam64, rate: Rate::Half },
+    }
+}
+
+pub fn bits_per_carrier(c: Constellation) -> u32
+    ensures { λ r. ⌜ (r ≡ bitsOf c) × (r ≤ 6) ⌝ }
+{
+    match c {
+        Constellation::Bpsk => 1,
+        Constellation::Qpsk => 2,
+        Constellation::Qam16 => 4,
+        Constellation::Qam64 => 6,
+    }
+}
+
+pub fn info_per_symbol(m: Mode) -> u32
+    ensures { λ r. ⌜ (r ≡ infoOf (m .constellation) (m .rate)) × (r ≤ 216) ⌝ }
+{
+    let c = m.constellation;
+    let rate = m.rate;
+    let bits = bits_per_carrier(c);
+    match rate {
+        Rate::Half => 24 * bits,
+        Rate::NineSixteenths => 27 * bits,
+        Rate::ThreeQuarters => 36 * bits,
+    }
+}
+
+fn info_of(mode: u32) -> u32
+    requires { ⌜ (1 ≤ mode) × (mode ≤ 7) ⌝ }
+    ensures { λ r. ⌜ (r ≡ info mode) × (0 < r) ⌝ }
+{
+    info_per_symbol(mode_of(mode))
+}
+
+// Refusals 3, 4 and 5: what a length is tested for.
+fn length_refusal(info: u32, n: u32) -> u32
+    requires { ⌜ 0 < info ⌝ }
+    ensures { λ r. ⌜ r ≡ ladder (lengths info n) ⌝ }
+{
+    if n < 72 {
+        return 3;
+    }
+    if 3456 < n {
+        return 3;
+    }
+    if n % 8 != 0 {
+        return 4;
+    }
+    if n % info != 0 {
+        return 5;
+    }
+    0
+}
+
+// Refusals 1, 3, 4 and 5: what a mode and a length are tested for.
+pub fn sized_refusal(mode: u32, n: u32) -> u32
+    ensures { λ r. ⌜ r ≡ ladder (sized mode n) ⌝ }
+{
+    if mode < 1 {
+        return 1;
+    }
+    if 7 < mode {
+        return 1;
+    }
+    length_refusal(info_of(mode), n)
+}
+
+// Refusals 1 to 6: what a whole description is tested for.
+pub fn refusal(mode: u32, counter: u32, n: u32, a: u32) -> u32
+    ensures { λ r. ⌜ r ≡ ladder (described mode counter n a) ⌝ }
+{
+    if mode < 1 {
+        return 1;
+    }
+    if 7 < mode {
+        return 1;
+    }
+    if 15 < counter {
+        return 2;
+    }
+    let r = length_refusal(info_of(mode), n);
+    if r != 0 {
+        return r;
+    }
+    if n - 72 < a {
+        return 6;
+    }
+    0
+}
+
+// The description of numbers that were not refused.
+pub fn train_of(mode: u32, counter: u32, n: u32, a: u32) -> Train
+    ensures { λ r. ⌜ Describes mode counter n a r ⌝ }
+{
+    Train { mode: mode_of(mode), counter, n: n as usize, a: a as usize }
 }

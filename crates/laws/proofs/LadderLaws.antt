@@ -1,0 +1,35 @@
+-- Laws of a ladder of refusals: where it stops, where it goes on, and what "not refused" gives.
+-- Assumes nothing.
+use mathlib.Core.Path.{_≡_, refl}
+use mathlib.Core.Bool.{Bool, true, false, _&&_}
+use mathlib.Core.List.{List, [], _∷_, _++_}
+use Prim.Native.Nat.{ℕ, zero, suc, _<_}
+use native.Mathlib.Omega.{arith}
+use lib.Dec.{T, ltb, ltb→lt}
+use Rattle.laws.specs.Ladder.{Rung, _when_, ladder}
+use Rattle.laws.proofs.Tables.{both, both-left, both-right}
+
+-- every rung's number is above 0
+abbrev pub numbered : List Rung → Bool
+numbered [] = true
+numbered ((k when t) ∷ rest) = both (ltb 0 k) (numbered rest)
+
+-- a refusal is the answer, whatever rungs follow
+pub ladder-stops : (xs ys : List Rung) → (ladder xs ≡ 0 → ⊥) → ladder (xs ++ ys) ≡ ladder xs
+unfolding ladder
+ladder-stops [] ys h = absurd (h refl)
+ladder-stops ((k when true) ∷ xs) ys h = refl
+ladder-stops ((k when false) ∷ xs) ys h = ladder-stops xs ys h
+
+-- where none refuses, the rungs that follow decide
+pub ladder-goes-on : (xs ys : List Rung) → T (numbered xs) → ladder xs ≡ 0 → ladder (xs ++ ys) ≡ ladder ys
+unfolding ladder
+ladder-goes-on [] ys t h = refl
+ladder-goes-on ((k when true) ∷ xs) ys t h = absurd (omega (arith, ltb→lt 0 k (both-left (ltb 0 k) (numbered xs) t)))
+ladder-goes-on ((k when false) ∷ xs) ys t h = ladder-goes-on xs ys (both-right (ltb 0 k) (numbered xs) t) h
+
+-- not refused: the first test fails, and the rest does not refuse either
+pub ladder-passed : (k : ℕ) (t : Bool) (rest : List Rung) → ladder ((suc k when t) ∷ rest) ≡ 0 → (t ≡ false) × (ladder rest ≡ 0)
+unfolding ladder
+ladder-passed k true rest h = absurd (omega arith)
+ladder-passed k false rest h = (refl, h)

@@ -1,0 +1,4 @@
+pub mod ListLaws
+pub mod Tables
+pub mod LadderLaws
+pub mod SumLaws

@@ -1,0 +1,78 @@
+-- Laws of lists made by a function and of buffers filled from the front.
+-- Assumes nothing.
+use mathlib.Core.Path.{_≡_, refl, ap, sym, _∙_}
+use mathlib.Core.Bool.{Bool, true, false}
+use mathlib.Core.List.{List, [], _∷_, _++_}
+use Prim.Native.Nat.{ℕ, zero, suc, _+_, _-_, _≤_, _<_}
+use native.Mathlib.Nat.{not-suc-le-zero, le-of-suc-le-suc}
+use native.Mathlib.Numerals.{add-one}
+use native.Mathlib.Omega.{arith}
+use lib.Dec.{ltb}
+use borrow.Author.Tests.{ltb-true, ltb-false}
+use lib.ListN.{length, getD, set, drop, length-append, length-drop, List·getD-append}
+use lib.Seq.{drop-cons, set-at, append-snoc, getD-append-add, getD-drop, ext-getD}
+use Rattle.laws.specs.Lists.{tabulate, filled}
+
+module _ {ℓ} {A : Type ℓ} where
+  pub tabulate-length : (n : ℕ) (f : ℕ → A) → length (tabulate n f) ≡ n
+  unfolding tabulate
+  tabulate-length zero f = refl
+  tabulate-length (suc n) f = ap suc (tabulate-length n (λ k. f (suc k)))
+
+  pub tabulate-at : (n : ℕ) (f : ℕ → A) (k : ℕ) (d : A) → k < n → getD (tabulate n f) k d ≡ f k
+  unfolding tabulate
+  tabulate-at zero f k d h = absurd (not-suc-le-zero h)
+  tabulate-at (suc n) f zero d h = refl
+  tabulate-at (suc n) f (suc k) d h = tabulate-at n (λ j. f (suc j)) k d (le-of-suc-le-suc h)
+
+  -- one entry more
+  pub tabulate-snoc : (n : ℕ) (f : ℕ → A) → tabulate (suc n) f ≡ tabulate n f ++ (f n ∷ [])
+  unfolding tabulate
+  tabulate-snoc zero f = refl
+  tabulate-snoc (suc n) f = ap (λ l. f zero ∷ l) (tabulate-snoc n (λ k. f (suc k)))
+
+  pub filled-none : (f : ℕ → A) (l : List A) → filled 0 f l ≡ l
+  unfolding filled tabulate
+  filled-none f l = refl
+
+  pub filled-length : (n : ℕ) (f : ℕ → A) (l : List A) → n ≤ length l → length (filled n f l) ≡ length l
+  unfolding filled
+  filled-length n f l h = simp (length-append, tabulate-length, length-drop) (omega arith)
+
+  -- storing the next entry fills one more
+  pub filled-again : (n : ℕ) (f : ℕ → A) (l : List A) → n < length l → set (filled n f l) n (f n) ≡ filled (n + 1) f l
+  unfolding filled
+  filled-again n f l h =
+      rw (add-one n, drop-cons l n (f n) h, set-at (tabulate n f) _ (drop (suc n) l) (f n) n (tabulate-length n f), tabulate-snoc n f)
+      (sym (append-snoc (tabulate n f) (f n) (drop (suc n) l)))
+
+  pub filled-at : (n : ℕ) (f : ℕ → A) (l : List A) (k : ℕ) (d : A) → k < n → getD (filled n f l) k d ≡ f k
+  unfolding filled
+  filled-at n f l k d h =
+      List·getD-append (tabulate n f) (drop n l) d k (rw tabulate-length h) ∙ tabulate-at n f k d h
+
+  beyond : (p : List A) (n : ℕ) (l : List A) (j : ℕ) (d : A) → length p ≡ n → getD (p ++ drop n l) (n + j) d ≡ getD l (n + j) d
+  beyond p n l j d e = ap (λ m. getD (p ++ drop n l) (m + j) d) (sym e) ∙ getD-append-add p (drop n l) j d ∙ getD-drop n l j d
+
+  pub filled-past : (n : ℕ) (f : ℕ → A) (l : List A) (k : ℕ) (d : A) → n ≤ k → getD (filled n f l) k d ≡ getD l k d
+  unfolding filled
+  filled-past n f l k d h =
+      let e : n + (k - n) ≡ k = omega arith in
+      rw e at (beyond (tabulate n f) n l (k - n) d (tabulate-length n f))
+
+  -- a buffer is known by its entries
+  pub filled-ext : (d : A) (n : ℕ) (f : ℕ → A) (l l′ : List A)
+      → length l′ ≡ length l
+      → n ≤ length l
+      → ((k : ℕ) → k < n → getD l′ k d ≡ f k)
+      → ((k : ℕ) → n ≤ k → k < length l → getD l′ k d ≡ getD l k d)
+      → l′ ≡ filled n f l
+  filled-ext d n f l l′ e h front back =
+      ext-getD d l′ (filled n f l) (e ∙ sym (filled-length n f l h)) (λ k hk. go k hk (ltb k n) refl)
+    where
+      go : (k : ℕ) → k < length l′ → (t : Bool) → ltb k n ≡ t → getD l′ k d ≡ getD (filled n f l) k d
+      go k hk true t = front k (ltb-true k n t) ∙ sym (filled-at n f l k d (ltb-true k n t))
+      go k hk false t =
+          let hn : n ≤ k = ltb-false k n t in
+          let hl : k < length l = omega (arith, e) in
+          back k hn hl ∙ sym (filled-past n f l k d hn)

@@ -1,0 +1,40 @@
+-- A rule proved everywhere by one test that is computed: at each entry of a table, or at each number below a bound.
+-- Assumes nothing.
+use mathlib.Core.Path.{_≡_, refl, _∙_, subst, sym}
+use mathlib.Core.Bool.{Bool, true, false}
+use mathlib.Core.List.{List, [], _∷_}
+use Prim.Native.Nat.{ℕ, zero, suc, _+_, _<_}
+use native.Mathlib.Nat.{add-zero, zero-add, add-suc, suc-add, le-of-suc-le-suc, not-suc-le-zero}
+use native.Mathlib.Omega.{arith}
+use lib.Dec.{T, ltb}
+use lib.ListN.{length, getD}
+use borrow.Author.Tests.{ltb-true, ltb-false}
+
+-- both of two tests
+abbrev pub both : Bool → Bool → Bool
+both true b = b
+both false b = false
+
+pub both-left : (a b : Bool) → T (both a b) → T a
+both-left true b t = tt
+both-left false b t = t
+
+pub both-right : (a b : Bool) → T (both a b) → T b
+both-right true b t = t
+both-right false b t = absurd t
+
+-- f holds at every number below n
+abbrev pub below : (ℕ → Bool) → ℕ → Bool
+below f zero = true
+below f (suc n) = both (f n) (below f n)
+
+-- what is tested at every number below n holds at each
+pub below-at : (f : ℕ → Bool) (n : ℕ) → T (below f n) → (k : ℕ) → k < n → T (f k)
+below-at f zero t k h = absurd (not-suc-le-zero h)
+below-at f (suc n) t k h = go (below-at f n (both-right (f n) (below f n) t) k) (ltb k n) refl
+  where
+    go : (k < n → T (f k)) → (b : Bool) → ltb k n ≡ b → T (f k)
+    go lower true e = lower (ltb-true k n e)
+    go lower false e =
+        let same : k ≡ n = omega (arith, ltb-false k n e) in
+        subst (λ (m : ℕ). T (f m)) (sym same) (both-left (f n) (below f n) t)

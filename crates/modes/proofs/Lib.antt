@@ -1,0 +1,2 @@
+pub mod ModeLaws
+pub mod RefusalLaws
