@@ -1,5 +1,5 @@
 -- The tail and the encoder (5.3.1.1), zero at the start. Coded bit 2 t is X of input t, and 2 t + 1 its Y.
---   tailed        six zero bits follow, not scrambled
+--   tail, tailed  six zero bits follow, not scrambled
 --   lagsX, lagsY  the two polynomials, octal 133 and 171, by their lags
 --   lag           the input k before input t
 --   tapped        the sum of the inputs at some lags
@@ -11,9 +11,13 @@ use lib.Dec.{leb, eqb}
 use lib.ListN.{getD}
 use Rattle.laws.specs.Lists.{choose}
 
--- six zero bits follow
+-- six zero bits
+unfoldable pub tail : List ℕ
+tail = 0 ∷ 0 ∷ 0 ∷ 0 ∷ 0 ∷ 0 ∷ []
+
+-- they follow the scrambled train
 unfoldable pub tailed : List ℕ → List ℕ
-tailed w = w ++ 0 ∷ 0 ∷ 0 ∷ 0 ∷ 0 ∷ 0 ∷ []
+tailed w = w ++ tail
 
 -- X sums the inputs at lags 0, 2, 3, 5, 6
 unfoldable pub lagsX : List ℕ

@@ -1,2 +1,4 @@
 pub mod Scrambler
 pub mod Encoder
+pub mod Register
+pub mod Train

@@ -12,19 +12,19 @@ use lib.ListN.{getD}
 use Rattle.laws.specs.Lists.{tabulate}
 
 -- bit t of a train's octets, most significant bit first
-unfoldable pub bitOf : List ℕ → ℕ → ℕ
+abbrev pub bitOf : List ℕ → ℕ → ℕ
 bitOf octets t = getD octets (t / 8) 0 / 2 ^ (7 - t % 8) % 2
 
 -- stages 7 to 1 are 1 1 1 n4 n3 n2 n1
-unfoldable pub start : ℕ → ℕ
+abbrev pub start : ℕ → ℕ
 start counter = 112 + counter
 
 -- stage 7 xor stage 4
-unfoldable pub output : ℕ → ℕ
+abbrev pub output : ℕ → ℕ
 output s = (s / 64 + s / 8) % 2
 
 -- shifting from stage 1 towards 7, the output fed back
-unfoldable pub shifted : ℕ → ℕ
+abbrev pub shifted : ℕ → ℕ
 shifted s = (2 * s + output s) % 128
 
 -- the state when t bits have been scrambled

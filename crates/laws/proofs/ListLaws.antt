@@ -3,7 +3,7 @@
 use mathlib.Core.Path.{_≡_, refl, ap, sym, _∙_}
 use mathlib.Core.Bool.{Bool, true, false}
 use mathlib.Core.List.{List, [], _∷_, _++_}
-use Prim.Native.Nat.{ℕ, zero, suc, _+_, _-_, _≤_, _<_}
+use Prim.Native.Nat.{ℕ, zero, suc, _+_, _-_, _*_, _≤_, _<_}
 use native.Mathlib.Nat.{not-suc-le-zero, le-of-suc-le-suc}
 use native.Mathlib.Numerals.{add-one}
 use native.Mathlib.Omega.{arith}
@@ -45,6 +45,13 @@ module _ {ℓ} {A : Type ℓ} where
   filled-again n f l h =
       rw (add-one n, drop-cons l n (f n) h, set-at (tabulate n f) _ (drop (suc n) l) (f n) n (tabulate-length n f), tabulate-snoc n f)
       (sym (append-snoc (tabulate n f) (f n) (drop (suc n) l)))
+
+  -- storing the next two fills two more
+  pub filled-pair : (t : ℕ) (f : ℕ → A) (l : List A) → 2 * t + 1 < length l
+      → set (set (filled (2 * t) f l) (2 * t) (f (2 * t))) (2 * t + 1) (f (2 * t + 1)) ≡ filled (2 * (t + 1)) f l
+  filled-pair t f l h =
+      let e : 2 * (t + 1) ≡ 2 * t + 1 + 1 = omega arith in
+      rw (e, filled-again (2 * t) f l (omega arith)) (filled-again (2 * t + 1) f l h)
 
   pub filled-at : (n : ℕ) (f : ℕ → A) (l : List A) (k : ℕ) (d : A) → k < n → getD (filled n f l) k d ≡ f k
   unfolding filled

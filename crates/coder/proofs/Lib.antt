@@ -1,0 +1,3 @@
+pub mod EncoderLaws
+pub mod TrainLaws
+pub mod CodeLaws

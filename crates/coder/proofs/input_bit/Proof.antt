@@ -1,0 +1,28 @@
+-- `coder::input_bit` is a scrambled bit below n, and a zero from there on.
+-- Assumes nothing.
+use mathlib.Core.Path.{refl}
+use native.Mathlib.Omega.{arith}
+use borrow.Author.Tests.{lt-ltb, le-ltb}
+use borrow.Author.Needs.{needs}
+use Rattle.coder.proofs.input_bit.Statement.{statement}
+use Rattle.coder.proofs.input_bit.Tie as tie
+
+bit-of-requires : tie.Need-bit-of-requires
+bit-of-requires c κs = c .before .before .pre (c .if1 .taken)
+
+output-of-requires : tie.Need-output-of-requires
+output-of-requires c κs = search needs
+
+add-result : tie.Need-add-result
+add-result c = search needs
+
+returns : tie.Need-returns
+returns c =
+    (rw (lt-ltb _ _ (c .before .before .if1 .taken), c .before .bit-of .ensures .0, c .output-of .ensures .0) refl, omega arith)
+
+returns-2 : tie.Need-returns-2
+returns-2 c = (rw (le-ltb _ _ (c .if1 .left)) refl, omega arith)
+
+pub input-bit-spec : {M : Type 1} → statement M
+input-bit-spec =
+    tie.close (tie.spec bit-of-requires output-of-requires add-result returns returns-2)
