@@ -2,3 +2,4 @@ pub mod ListLaws
 pub mod Tables
 pub mod LadderLaws
 pub mod SumLaws
+pub mod ScatterLaws

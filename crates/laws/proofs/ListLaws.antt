@@ -46,6 +46,10 @@ module _ {ℓ} {A : Type ℓ} where
       rw (add-one n, drop-cons l n (f n) h, set-at (tabulate n f) _ (drop (suc n) l) (f n) n (tabulate-length n f), tabulate-snoc n f)
       (sym (append-snoc (tabulate n f) (f n) (drop (suc n) l)))
 
+  -- the same of a buffer and a value that are known by equations: a turn of a loop that writes in order
+  pub filled-put : (n : ℕ) (f : ℕ → A) (l₀ l : List A) (v : A) → l ≡ filled n f l₀ → v ≡ f n → n < length l₀ → set l n v ≡ filled (n + 1) f l₀
+  filled-put n f l₀ l v el ev h = rw (el, ev) (filled-again n f l₀ h)
+
   -- storing the next two fills two more
   pub filled-pair : (t : ℕ) (f : ℕ → A) (l : List A) → 2 * t + 1 < length l
       → set (set (filled (2 * t) f l) (2 * t) (f (2 * t))) (2 * t + 1) (f (2 * t + 1)) ≡ filled (2 * (t + 1)) f l

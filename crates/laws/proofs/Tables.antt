@@ -1,13 +1,13 @@
 -- A rule proved everywhere by one test that is computed: at each entry of a table, or at each number below a bound.
 -- Assumes nothing.
-use mathlib.Core.Path.{_≡_, refl, _∙_, subst, sym}
+use mathlib.Core.Path.{_≡_, refl, subst, sym}
 use mathlib.Core.Bool.{Bool, true, false}
-use mathlib.Core.List.{List, [], _∷_}
-use Prim.Native.Nat.{ℕ, zero, suc, _+_, _<_}
-use native.Mathlib.Nat.{add-zero, zero-add, add-suc, suc-add, le-of-suc-le-suc, not-suc-le-zero}
+use mathlib.Core.List.{List}
+use Prim.Native.Nat.{ℕ, zero, suc, _<_}
+use native.Mathlib.Nat.{not-suc-le-zero}
 use native.Mathlib.Omega.{arith}
-use lib.Dec.{T, ltb}
-use lib.ListN.{length, getD}
+use lib.Dec.{T, ltb, eqb, eqb→eq}
+use lib.ListN.{getD}
 use borrow.Author.Tests.{ltb-true, ltb-false}
 
 -- both of two tests
@@ -38,3 +38,7 @@ below-at f (suc n) t k h = go (below-at f n (both-right (f n) (below f n) t) k) 
     go lower false e =
         let same : k ≡ n = omega (arith, ltb-false k n e) in
         subst (λ (m : ℕ). T (f m)) (sym same) (both-left (f n) (below f n) t)
+
+-- a table follows a rule
+pub table-rule : (table : List ℕ) (rule : ℕ → ℕ) (n : ℕ) → T (below (λ k. eqb (getD table k 0) (rule k)) n) → (k : ℕ) → k < n → getD table k 0 ≡ rule k
+table-rule table rule n t k h = eqb→eq (getD table k 0) (rule k) (below-at (λ j. eqb (getD table j 0) (rule j)) n t k h)

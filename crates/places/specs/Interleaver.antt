@@ -1,12 +1,14 @@
 -- The interleaver (5.4), by the sent bits per symbol S and the bits per carrier b.
 --   unit         s, the greater of 1 and half the bits per carrier
 --   placeInSymbol  where bit k of a symbol goes
+--   placesOf     the places of a symbol's bits as a table of 288 entries
 --   seated       the symbol when its first n bits have gone to their places: entry j is the bit that stands at j
 --   interleaver  the same in every symbol
 -- Assumes nothing.
 use Prim.Native.Nat.{ℕ, zero, suc, _+_, _-_, _*_, _/_, _%_, max}
 use mathlib.Core.List.{List}
 use lib.ListN.{set, replicate}
+use Rattle.laws.specs.Lists.{filled}
 use Rattle.places.specs.Selection.{Selection, blocks}
 
 -- s, the greater of 1 and half the bits per carrier
@@ -24,6 +26,14 @@ secondStep S s i = s * (i / s) + (i + S - 16 * i / S) % s
 -- where bit k of a symbol goes
 unfoldable pub placeInSymbol : ℕ → ℕ → ℕ → ℕ
 placeInSymbol S b k = secondStep S (unit b) (firstStep S k)
+
+-- a table of places that is still empty
+unfoldable pub noPlaces : List ℕ
+noPlaces = replicate 288 0
+
+-- the table of a symbol's places, as long as the largest symbol
+unfoldable pub placesOf : ℕ → ℕ → List ℕ
+placesOf S b = filled S (placeInSymbol S b) noPlaces
 
 -- the symbol when its first n bits have gone to their places
 unfoldable pub seated : ℕ → ℕ → ℕ → List ℕ

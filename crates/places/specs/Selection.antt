@@ -3,6 +3,7 @@
 --   Selection  all, blocks, after, beside
 --   place      the place of the input bit m: the customer's "place of every bit"
 --   origin     the input bit that goes out at q
+--   atPlace    a value by a bit's place, 0 where it is dropped
 -- Assumes nothing.
 use Prim.Native.Nat.{ℕ, _+_, _-_, _*_, _/_, _%_}
 use mathlib.Core.Bool.{Bool, true, false}
@@ -54,3 +55,8 @@ origin all q = q
 origin (blocks kept period) q = period * (q / length kept) + getD kept (q % length kept) 0
 origin (after f g) q = origin f (origin g q)
 origin (beside i o f g) q = choose (ltb q o) (origin f q) (i + origin g (q - o))
+
+-- a value by a bit's place, 0 where it is dropped
+unfoldable pub atPlace : (ℕ → ℕ) → Place → ℕ
+atPlace g (At j) = g j
+atPlace g Dropped = 0

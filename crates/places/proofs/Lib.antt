@@ -1,0 +1,7 @@
+pub mod BlockLaws
+pub mod SelectionLaws
+pub mod SymbolLaws
+pub mod TrainLaws
+pub mod OriginLaws
+pub mod StepLaws
+pub mod SendLaws

@@ -1,0 +1,97 @@
+-- How many bits P1, P2, the interleaver and whole trains take and give, and that a list of one PDU is document 01's train.
+-- Assumes nothing.
+use mathlib.Core.Path.{_≡_, refl, ap}
+use mathlib.Core.List.{List, [], _∷_}
+use Prim.Native.Nat.{ℕ, _+_, _-_, _*_, _/_, _%_, _≤_, _<_}
+use native.Mathlib.Nat.{div-add-mod, mul-comm}
+use native.Mathlib.Omega.{arith}
+use lib.Dec.{lit<}
+use borrow.Author.Tests.{lt-ltb}
+use Rattle.modes.specs.Modes.{rowOf, table1, noMode, rateOf, rateIn, bits, sent, sentIn, info, infoIn}
+use Rattle.modes.specs.Sizes.{symbols, sentBits}
+use Rattle.modes.proofs.ModeLaws.{by-mode}
+use Rattle.places.specs.Selection.{Place, At, Dropped, onwards, place, origin, find, later}
+use Rattle.places.specs.Puncture.{p1Kept, P1, p2Kept34, p2Kept916, P2}
+use Rattle.places.specs.Interleaver.{interleaver}
+use Rattle.places.specs.Trains.{pdu, train, Pdu, pdus, listed, one, lengthOf, sentOf, FitPdus}
+use Rattle.places.proofs.BlockLaws.{Blocks}
+use Rattle.places.proofs.SelectionLaws.{Takes, place-origin}
+use Rattle.places.proofs.SymbolLaws.{symbol-sound, seated-length}
+
+-- P1 drops twelve bits
+pub takes-P1 : (a N : ℕ) → a + 72 ≤ N → Takes (P1 a) (2 * (N + 6)) (2 * N)
+unfolding Takes P1 p1Kept find later
+takes-P1 a N h = (
+  2 * (N + 6 - a),
+  2 * (N - a),
+  omega arith,
+  omega arith,
+  refl,
+  (
+    2 * (N + 6 - a) - 156,
+    2 * (N - a) - 144,
+    omega arith,
+    omega arith,
+    record { count = 6; takes = refl; gives = refl; some = lit< tt; kept-sound = tt },
+    omega arith,
+  ),
+)
+
+kept34 : {i o : ℕ} (c : ℕ) → i ≡ 6 * c → o ≡ 4 * c → Blocks p2Kept34 6 i o
+unfolding p2Kept34 find later
+kept34 c takes gives = record { count = c; takes = takes; gives = gives; some = lit< tt; kept-sound = tt }
+
+kept916 : {i o : ℕ} (c : ℕ) → i ≡ 18 * c → o ≡ 16 * c → Blocks p2Kept916 18 i o
+unfolding p2Kept916 find later
+kept916 c takes gives = record { count = c; takes = takes; gives = gives; some = lit< tt; kept-sound = tt }
+
+-- P2 leaves a mode's whole symbols
+pub takes-P2 : (k : ℕ) → 1 ≤ k → k ≤ 7 → (s : ℕ) → Takes (P2 (rateOf k)) (2 * (info k * s)) (sent k * s)
+unfolding Takes P2 rateOf rateIn sent sentIn info infoIn rowOf table1 noMode
+takes-P2 =
+    by-mode _ (λ s. omega arith) (λ s. kept34 (12 * s) (omega arith) (omega arith))
+    (λ s. omega arith) (λ s. kept34 (24 * s) (omega arith) (omega arith))
+    (λ s. kept916 (12 * s) (omega arith) (omega arith)) (λ s. kept34 (48 * s) (omega arith) (omega arith)) (λ s. kept34 (72 * s) (omega arith) (omega arith))
+
+sent-some : (k : ℕ) → 1 ≤ k → k ≤ 7 → 0 < sent k
+unfolding sent sentIn rowOf table1 noMode
+sent-some = by-mode _ (lit< tt) (lit< tt) (lit< tt) (lit< tt) (lit< tt) (lit< tt) (lit< tt)
+
+-- the interleaver takes and gives whole symbols
+pub takes-interleaver : (k : ℕ) → 1 ≤ k → k ≤ 7 → (s : ℕ) → Takes (interleaver (sent k) (bits k)) (sent k * s) (s * sent k)
+unfolding Takes interleaver
+takes-interleaver k low high s =
+    record { count = s; takes = refl; gives = rw seated-length (mul-comm s (sent k)); some = sent-some k low high; kept-sound = symbol-sound k low high }
+
+pub takes-pdu : (k N : ℕ) → 1 ≤ k → k ≤ 7 → N % info k ≡ 0 → Takes (pdu k) (2 * N) (sentBits k N)
+unfolding Takes pdu sentBits symbols
+takes-pdu k N low high whole =
+    let exact : info k * (N / info k) ≡ N = omega (arith, div-add-mod N (info k)) in
+    (sent k * (N / info k), rw exact at (takes-P2 k low high (N / info k)), takes-interleaver k low high (N / info k))
+
+pub takes-train : (k N a : ℕ) → 1 ≤ k → k ≤ 7 → N % info k ≡ 0 → a + 72 ≤ N → Takes (train k a) (2 * (N + 6)) (sentBits k N)
+unfolding Takes train
+takes-train k N a low high whole fits = (2 * N, takes-P1 a N fits, takes-pdu k N low high whole)
+
+pub takes-pdus : (ps : List Pdu) → FitPdus ps → Takes (pdus ps) (2 * lengthOf ps) (sentOf ps)
+unfolding Takes pdus lengthOf sentOf FitPdus
+takes-pdus [] fit = refl
+takes-pdus (p ∷ ps) (fit, rest) =
+    (2 * lengthOf ps, sentOf ps, omega arith, refl, takes-pdu (p .mode) (p .length) (fit .from-1) (fit .to-7) (fit .whole-symbols), takes-pdus ps rest)
+
+pub takes-listed : (ps : List Pdu) (a : ℕ) → FitPdus ps → a + 72 ≤ lengthOf ps → Takes (listed ps a) (2 * (lengthOf ps + 6)) (sentOf ps)
+unfolding Takes listed
+takes-listed ps a fit fits = (2 * lengthOf ps, takes-P1 a (lengthOf ps) fits, takes-pdus ps fit)
+
+-- a list of one PDU is document 01's train
+pub one-pdu-origin : (k N a q : ℕ) → q < sentBits k N → origin (listed (one k N) a) q ≡ origin (train k a) q
+unfolding origin listed pdus train
+one-pdu-origin k N a q h = ap (origin (P1 a)) (rw (lt-ltb q (sentBits k N) h))
+
+pub one-pdu-place : (k N a m : ℕ) → a + 72 ≤ N → m < 2 * (N + 6) → place (listed (one k N) a) m ≡ place (train k a) m
+unfolding place listed pdus train onwards
+one-pdu-place k N a m fits h = go (place (P1 a) m) refl
+  where
+    go : (p : Place) → place (P1 a) m ≡ p → onwards p (place (pdus (one k N))) ≡ onwards p (place (pdu k))
+    go (At j) e = rw (lt-ltb j (2 * N) (place-origin (P1 a) (takes-P1 a N fits) m j h e .0))
+    go Dropped e = refl

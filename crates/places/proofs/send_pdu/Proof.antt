@@ -1,0 +1,102 @@
+-- `places::send_pdu` sends a PDU symbol by symbol.
+-- Assumes nothing.
+use mathlib.Core.Path.{_≡_, refl, sym, _∙_, ap}
+use Prim.Native.Nat.{ℕ, _+_, _*_, _-_, _≤_, _<_}
+use native.Mathlib.Omega.{arith}
+use borrow.Author.Needs.{needs}
+use lib.ListN.{length, getD}
+use Rattle.modes.specs.Modes.{bitsOf}
+use Rattle.places.proofs.SendLaws.{seats, symbol-inside, sources-fewer, Sent, sent-none, sent-again, sent-done}
+use Rattle.places.proofs.send_pdu.Statement.{statement}
+use Rattle.places.proofs.send_pdu.Tie as tie
+
+abbrev Inv-loop : tie.InvT-loop
+Inv-loop symbols a first coded sent₀ rate places b size symbol₀ base₀ sent symbol base = (symbol ≤ symbols) × (Sent b rate a first coded sent₀ sent symbol base)
+
+abbrev μ-loop : tie.MeasureT-loop
+μ-loop symbols a first coded sent₀ rate places b size symbol₀ base₀ sent symbol base = symbols - symbol
+
+symbol-places-requires : tie.Need-symbol-places-requires Inv-loop μ-loop
+symbol-places-requires c κs = search needs
+
+bits-per-carrier-requires : tie.Need-bits-per-carrier-requires Inv-loop μ-loop
+bits-per-carrier-requires c κs = search needs
+
+cast-b : tie.Need-cast-b Inv-loop μ-loop
+cast-b c = omega arith
+
+mul-size : tie.Need-mul-size Inv-loop μ-loop
+mul-size c = omega arith
+
+loop-holds : tie.Need-loop-holds Inv-loop μ-loop
+loop-holds c = (omega arith, sent-none _ _ _ _ _ _)
+
+-- the symbol of this turn lies within the PDU
+room : (c : tie.In-loop Inv-loop μ-loop)
+    → c .before .loop .base + 48 * c .before .before .bits-per-carrier .result
+    ≤ c .before .before .before .before .before .before .args .symbols * (48 * bitsOf (c .before .before .before .before .before .before .args .mode .constellation))
+room c =
+    symbol-inside (c .before .before .before .before .before .before .args .mode .constellation) _ (c .before .before .bits-per-carrier .ensures .0) _ _ _ (c .before .loop .inv .1 .counted) (c .loop-test .taken)
+
+send-symbol-requires : tie.Need-send-symbol-requires Inv-loop μ-loop
+send-symbol-requires c κs =
+    let turn = c .before .before in
+    let at = turn .before in
+    let e = at .before .bits-per-carrier .ensures .0 in
+    let inside = room turn in
+    let long = at .loop .inv .1 .long in
+    let start = at .before .before .before .before .before in
+    (
+      (omega arith, omega arith, omega (arith, start .pre .0), omega (arith, start .pre .0)),
+      (
+        rw (at .before .before .symbol-places .ensures, ← e) (seats (start .args .mode .constellation) _ e),
+        sources-fewer _ _ _ _ _ _ inside (start .pre .1),
+      ),
+    )
+
+add-base : tie.Need-add-base Inv-loop μ-loop
+add-base c = omega (arith, room (c .before .before .before .before .before))
+
+add-symbol : tie.Need-add-symbol Inv-loop μ-loop
+add-symbol c = omega arith
+
+loop-less : tie.Need-loop-less Inv-loop μ-loop
+loop-less c = omega arith
+
+loop-again : tie.Need-loop-again Inv-loop μ-loop
+loop-again c =
+    let turn = c .before .before .before .before .before in
+    let at = turn .before in
+    let e = at .before .bits-per-carrier .ensures .0 in
+    let start = at .before .before .before .before .before in
+    (
+      omega arith,
+      sent-again (start .args .mode .constellation) _ e _ _ _ _ _ _ _ _ _ (omega (arith, room turn, start .pre .0)) (at .loop .inv .1)
+      (rw (at .before .before .symbol-places .ensures, ← e) at (c .before .before .send-symbol .ensures)),
+    )
+
+same-length : tie.Need-same-length Inv-loop μ-loop
+same-length c = c .before .loop .inv .1 .long
+
+returns : tie.Need-returns Inv-loop μ-loop
+returns c =
+    sent-done (c .before .before .before .before .before .before .args .mode .constellation) _ (c .before .before .bits-per-carrier .ensures .0) _ _ _ _ _ _ _ _ _ (omega arith) (c .before .loop .inv .1)
+
+pub send-pdu-spec : {M : Type 1} → statement M
+send-pdu-spec =
+    tie.close
+    (tie.spec
+    Inv-loop
+    μ-loop
+    symbol-places-requires
+    bits-per-carrier-requires
+    cast-b
+    mul-size
+    loop-holds
+    send-symbol-requires
+    add-base
+    add-symbol
+    loop-less
+    loop-again
+    same-length
+    returns)
