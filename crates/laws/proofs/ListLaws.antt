@@ -1,6 +1,6 @@
 -- Laws of lists made by a function and of buffers filled from the front.
 -- Assumes nothing.
-use mathlib.Core.Path.{_≡_, refl, ap, sym, _∙_}
+use mathlib.Core.Path.{_≡_, refl, ap, ap₂, sym, _∙_}
 use mathlib.Core.Bool.{Bool, true, false}
 use mathlib.Core.List.{List, [], _∷_, _++_}
 use Prim.Native.Nat.{ℕ, zero, suc, _+_, _-_, _*_, _≤_, _<_}
@@ -25,6 +25,12 @@ module _ {ℓ} {A : Type ℓ} where
   tabulate-at (suc n) f zero d h = refl
   tabulate-at (suc n) f (suc k) d h = tabulate-at n (λ j. f (suc j)) k d (le-of-suc-le-suc h)
 
+  pub tabulate-ext : (n : ℕ) (f g : ℕ → A) → ((k : ℕ) → k < n → f k ≡ g k) → tabulate n f ≡ tabulate n g
+  unfolding tabulate
+  tabulate-ext zero f g same = refl
+  tabulate-ext (suc n) f g same =
+      ap₂ _∷_ (same zero (omega arith)) (tabulate-ext n (λ k. f (suc k)) (λ k. g (suc k)) (λ k h. same (suc k) (omega arith)))
+
   -- one entry more
   pub tabulate-snoc : (n : ℕ) (f : ℕ → A) → tabulate (suc n) f ≡ tabulate n f ++ (f n ∷ [])
   unfolding tabulate
@@ -34,6 +40,11 @@ module _ {ℓ} {A : Type ℓ} where
   pub filled-none : (f : ℕ → A) (l : List A) → filled 0 f l ≡ l
   unfolding filled tabulate
   filled-none f l = refl
+
+  -- what is filled in is known by its entries
+  pub filled-same : (n : ℕ) (f g : ℕ → A) (l : List A) → ((k : ℕ) → k < n → f k ≡ g k) → filled n f l ≡ filled n g l
+  unfolding filled
+  filled-same n f g l same = ap (λ t. t ++ drop n l) (tabulate-ext n f g same)
 
   pub filled-length : (n : ℕ) (f : ℕ → A) (l : List A) → n ≤ length l → length (filled n f l) ≡ length l
   unfolding filled

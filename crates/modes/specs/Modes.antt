@@ -4,6 +4,7 @@
 --   constellationOf, rateOf, bits, sent, info   the columns, by a mode's number
 --   bitsOf        a constellation's bits per carrier
 --   infoOf        a pair's information bits per symbol
+--   number        the paper's number of a mode, 0 for the five pairs that are none
 -- Assumes nothing.
 use Prim.Native.Nat.{ℕ, _*_}
 use mathlib.Core.List.{List, [], _∷_}
@@ -12,6 +13,7 @@ use Rattle.modes.specs.declared.Constellation.{Constellation}
 use Rattle.modes.specs.declared.Constellation.the-variants.{Bpsk, Qpsk, Qam16, Qam64}
 use Rattle.modes.specs.declared.Rate.{Rate}
 use Rattle.modes.specs.declared.Rate.the-variants.{Half, NineSixteenths, ThreeQuarters}
+use Rattle.modes.specs.declared.Mode.{Mode}
 
 -- constellation, rate, bits per carrier, sent bits per symbol, information bits per symbol
 pub data Row : Type 0 where
@@ -84,3 +86,22 @@ abbrev pub infoOf : Constellation → Rate → ℕ
 infoOf c Half = 24 * bitsOf c
 infoOf c NineSixteenths = 27 * bitsOf c
 infoOf c ThreeQuarters = 36 * bitsOf c
+
+-- the number of a constellation and a rate, 0 for the five pairs that are no mode
+unfoldable pub numberOf : Constellation → Rate → ℕ
+numberOf Bpsk Half = 1
+numberOf Bpsk NineSixteenths = 0
+numberOf Bpsk ThreeQuarters = 2
+numberOf Qpsk Half = 3
+numberOf Qpsk NineSixteenths = 0
+numberOf Qpsk ThreeQuarters = 4
+numberOf Qam16 Half = 0
+numberOf Qam16 NineSixteenths = 5
+numberOf Qam16 ThreeQuarters = 6
+numberOf Qam64 Half = 0
+numberOf Qam64 NineSixteenths = 0
+numberOf Qam64 ThreeQuarters = 7
+
+-- the paper's number of a mode
+abbrev pub number : Mode → ℕ
+number m = numberOf (m .constellation) (m .rate)

@@ -4,8 +4,9 @@
 ghost use mathlib.Core.Path.{_≡_};
 ghost use Prim.Native.Nat.{_*_, _<_, _≤_, _/_};
 ghost use Rattle.laws.specs.Ladder.{ladder};
-ghost use Rattle.modes.specs.Modes.{constellationOf, rateOf, bitsOf, info, infoOf};
-ghost use Rattle.modes.specs.Description.{Describes};
+ghost use Rattle.modes.specs.Modes.{constellationOf, rateOf, bitsOf, info, infoOf, number};
+ghost use Rattle.modes.specs.Sizes.{symbols, sentBits};
+ghost use Rattle.modes.specs.Description.{Fit, Describes};
 ghost use Rattle.modes.specs.Refusals.{lengths, sized, described};
 
 pub enum Constellation {
@@ -51,7 +52,7 @@ pub fn mode_of(number: u32) -> Mode
 }
 
 pub fn bits_per_carrier(c: Constellation) -> u32
-    ensures { λ r. ⌜ (r ≡ bitsOf c) × (r ≤ 6) ⌝ }
+    ensures { λ r. ⌜ (r ≡ bitsOf c) × (1 ≤ r) × (r ≤ 6) ⌝ }
 {
     match c {
         Constellation::Bpsk => 1,
@@ -62,7 +63,7 @@ pub fn bits_per_carrier(c: Constellation) -> u32
 }
 
 pub fn info_per_symbol(m: Mode) -> u32
-    ensures { λ r. ⌜ (r ≡ infoOf (m .constellation) (m .rate)) × (r ≤ 216) ⌝ }
+    ensures { λ r. ⌜ (r ≡ infoOf (m .constellation) (m .rate)) × (24 ≤ r) × (r ≤ 216) ⌝ }
 {
     let c = m.constellation;
     let rate = m.rate;
@@ -72,6 +73,24 @@ pub fn info_per_symbol(m: Mode) -> u32
         Rate::NineSixteenths => 27 * bits,
         Rate::ThreeQuarters => 36 * bits,
     }
+}
+
+// The symbols of a train of n bits.
+pub fn symbols_of(m: Mode, n: usize) -> usize
+    requires { ⌜ Fit (number m) n ⌝ }
+    ensures { λ r. ⌜ (r ≡ symbols (number m) n) × (r ≤ 144) ⌝ }
+{
+    n / (info_per_symbol(m) as usize)
+}
+
+// Document 01's n: the sent bits of a train of n bits.
+pub fn sent_bits(m: Mode, n: usize) -> usize
+    requires { ⌜ Fit (number m) n ⌝ }
+    ensures { λ r. ⌜ r ≡ sentBits (number m) n ⌝ }
+{
+    let c = m.constellation;
+    let per_symbol = 48 * bits_per_carrier(c);
+    symbols_of(m, n) * (per_symbol as usize)
 }
 
 fn info_of(mode: u32) -> u32

@@ -90,8 +90,10 @@ module _ (kept : List ℕ) (period : ℕ) where
   pub entry : T (sound kept period) → (j : ℕ) → j < length kept → (getD kept j 0 < period) × (find (getD kept j 0) kept ≡ At j)
   entry t j h =
       let r : ℕ = getD kept j 0 in
-      let e : T (both (ltb r period) (isAt j (find r kept))) = below-at _ (length kept) t j h in
-      (ltb→lt r period (both-left (ltb r period) (isAt j (find r kept)) e), isAt-at j (find r kept) (both-right (ltb r period) (isAt j (find r kept)) e))
+      let e : T (both (ltb r period) (isAt j (find r kept))) = below-at _ (length kept) t j h in (
+        ltb→lt r period (both-left (ltb r period) (isAt j (find r kept)) e),
+        isAt-at j (find r kept) (both-right (ltb r period) (isAt j (find r kept)) e),
+      )
 
   pub origin-blocks : {i o : ℕ} → Blocks kept period i o → (q : ℕ) → q < o
       → (origin (blocks kept period) q < i) × (place (blocks kept period) (origin (blocks kept period) q) ≡ At q)

@@ -5,3 +5,4 @@ pub mod TrainLaws
 pub mod OriginLaws
 pub mod StepLaws
 pub mod SendLaws
+pub mod SourceLaws

@@ -39,7 +39,8 @@ module _ (i₁ o₁ : ℕ) (f g : Selection) {i₂ o₂ : ℕ} where
   origin-beside q h first second = go (ltb q o₁) refl
     where
       go : (t : Bool) → ltb q o₁ ≡ t
-          → (choose t (origin f q) (i₁ + origin g (q - o₁)) < i₁ + i₂) × (place (beside i₁ o₁ f g) (choose t (origin f q) (i₁ + origin g (q - o₁))) ≡ At q)
+          → (choose t (origin f q) (i₁ + origin g (q - o₁)) < i₁ + i₂)
+          × (place (beside i₁ o₁ f g) (choose t (origin f q) (i₁ + origin g (q - o₁))) ≡ At q)
       go true e =
           let (hi, there) = first (ltb-true q o₁ e) in
           rw (lt-ltb (origin f q) i₁ hi) (omega arith, there)

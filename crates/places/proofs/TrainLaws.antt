@@ -3,20 +3,24 @@
 use mathlib.Core.Path.{_≡_, refl, ap}
 use mathlib.Core.List.{List, [], _∷_}
 use Prim.Native.Nat.{ℕ, _+_, _-_, _*_, _/_, _%_, _≤_, _<_}
-use native.Mathlib.Nat.{div-add-mod, mul-comm}
+use native.Mathlib.Nat.{div-add-mod, mul-comm, mul-left-comm}
 use native.Mathlib.Omega.{arith}
 use lib.Dec.{lit<}
+use lib.ListN.{length}
 use borrow.Author.Tests.{lt-ltb}
-use Rattle.modes.specs.Modes.{rowOf, table1, noMode, rateOf, rateIn, bits, sent, sentIn, info, infoIn}
+use Rattle.modes.specs.declared.Constellation.{Constellation}
+use Rattle.modes.specs.declared.Rate.{Rate}
+use Rattle.modes.specs.declared.Rate.the-variants.{Half, NineSixteenths, ThreeQuarters}
+use Rattle.modes.specs.Modes.{constellationOf, bitsOf, infoOf, rowOf, table1, noMode, rateOf, rateIn, bits, sent, sentIn, info, infoIn}
 use Rattle.modes.specs.Sizes.{symbols, sentBits}
-use Rattle.modes.proofs.ModeLaws.{by-mode}
+use Rattle.modes.proofs.ModeLaws.{by-mode, columns}
 use Rattle.places.specs.Selection.{Place, At, Dropped, onwards, place, origin, find, later}
 use Rattle.places.specs.Puncture.{p1Kept, P1, p2Kept34, p2Kept916, P2}
 use Rattle.places.specs.Interleaver.{interleaver}
 use Rattle.places.specs.Trains.{pdu, train, Pdu, pdus, listed, one, lengthOf, sentOf, FitPdus}
 use Rattle.places.proofs.BlockLaws.{Blocks}
 use Rattle.places.proofs.SelectionLaws.{Takes, place-origin}
-use Rattle.places.proofs.SymbolLaws.{symbol-sound, seated-length}
+use Rattle.places.proofs.SymbolLaws.{symbol, symbol-sound, seated-length}
 
 -- P1 drops twelve bits
 pub takes-P1 : (a N : ℕ) → a + 72 ≤ N → Takes (P1 a) (2 * (N + 6)) (2 * N)
@@ -45,15 +49,22 @@ kept916 : {i o : ℕ} (c : ℕ) → i ≡ 18 * c → o ≡ 16 * c → Blocks p2K
 unfolding p2Kept916 find later
 kept916 c takes gives = record { count = c; takes = takes; gives = gives; some = lit< tt; kept-sound = tt }
 
--- P2 leaves a mode's whole symbols
-pub takes-P2 : (k : ℕ) → 1 ≤ k → k ≤ 7 → (s : ℕ) → Takes (P2 (rateOf k)) (2 * (info k * s)) (sent k * s)
-unfolding Takes P2 rateOf rateIn sent sentIn info infoIn rowOf table1 noMode
-takes-P2 =
-    by-mode _ (λ s. omega arith) (λ s. kept34 (12 * s) (omega arith) (omega arith))
-    (λ s. omega arith) (λ s. kept34 (24 * s) (omega arith) (omega arith))
-    (λ s. kept916 (12 * s) (omega arith) (omega arith)) (λ s. kept34 (48 * s) (omega arith) (omega arith)) (λ s. kept34 (72 * s) (omega arith) (omega arith))
+-- P2 leaves the whole symbols of any constellation
+pub takes-rate : (rate : Rate) (c : Constellation) (s : ℕ) → Takes (P2 rate) (2 * (s * infoOf c rate)) (s * (48 * bitsOf c))
+unfolding Takes P2
+takes-rate Half c s = omega (arith, mul-left-comm s 24 (bitsOf c), mul-left-comm s 48 (bitsOf c))
+takes-rate NineSixteenths c s =
+    kept916 (3 * (s * bitsOf c)) (omega (arith, mul-left-comm s 27 (bitsOf c))) (omega (arith, mul-left-comm s 48 (bitsOf c)))
+takes-rate ThreeQuarters c s =
+    kept34 (12 * (s * bitsOf c)) (omega (arith, mul-left-comm s 36 (bitsOf c))) (omega (arith, mul-left-comm s 48 (bitsOf c)))
 
-sent-some : (k : ℕ) → 1 ≤ k → k ≤ 7 → 0 < sent k
+-- and those of a mode
+takes-P2 : (k : ℕ) → 1 ≤ k → k ≤ 7 → (s : ℕ) → Takes (P2 (rateOf k)) (2 * (info k * s)) (sent k * s)
+takes-P2 k low high s =
+    let (b, S, i) = columns k low high in
+    rw (S, b, i, mul-comm _ s, mul-comm _ s) (takes-rate (rateOf k) (constellationOf k) s)
+
+pub sent-some : (k : ℕ) → 1 ≤ k → k ≤ 7 → 0 < sent k
 unfolding sent sentIn rowOf table1 noMode
 sent-some = by-mode _ (lit< tt) (lit< tt) (lit< tt) (lit< tt) (lit< tt) (lit< tt) (lit< tt)
 
@@ -61,7 +72,8 @@ sent-some = by-mode _ (lit< tt) (lit< tt) (lit< tt) (lit< tt) (lit< tt) (lit< tt
 pub takes-interleaver : (k : ℕ) → 1 ≤ k → k ≤ 7 → (s : ℕ) → Takes (interleaver (sent k) (bits k)) (sent k * s) (s * sent k)
 unfolding Takes interleaver
 takes-interleaver k low high s =
-    record { count = s; takes = refl; gives = rw seated-length (mul-comm s (sent k)); some = sent-some k low high; kept-sound = symbol-sound k low high }
+    let same : s * sent k ≡ length (symbol k) * s = rw seated-length (mul-comm s (sent k)) in
+    record { count = s; takes = refl; gives = same; some = sent-some k low high; kept-sound = symbol-sound k low high }
 
 pub takes-pdu : (k N : ℕ) → 1 ≤ k → k ≤ 7 → N % info k ≡ 0 → Takes (pdu k) (2 * N) (sentBits k N)
 unfolding Takes pdu sentBits symbols
@@ -77,7 +89,8 @@ pub takes-pdus : (ps : List Pdu) → FitPdus ps → Takes (pdus ps) (2 * lengthO
 unfolding Takes pdus lengthOf sentOf FitPdus
 takes-pdus [] fit = refl
 takes-pdus (p ∷ ps) (fit, rest) =
-    (2 * lengthOf ps, sentOf ps, omega arith, refl, takes-pdu (p .mode) (p .length) (fit .from-1) (fit .to-7) (fit .whole-symbols), takes-pdus ps rest)
+    let first = takes-pdu (p .mode) (p .length) (fit .from-1) (fit .to-7) (fit .whole-symbols) in
+    (2 * lengthOf ps, sentOf ps, omega arith, refl, first, takes-pdus ps rest)
 
 pub takes-listed : (ps : List Pdu) (a : ℕ) → FitPdus ps → a + 72 ≤ lengthOf ps → Takes (listed ps a) (2 * (lengthOf ps + 6)) (sentOf ps)
 unfolding Takes listed

@@ -1,48 +1,37 @@
+-- `modes::info_per_symbol` goes by the rate.
+-- Assumes nothing.
 use native.Mathlib.Omega.{arith}
 use borrow.Author.Needs.{needs}
 use Rattle.modes.proofs.info_per_symbol.Statement.{statement}
 use Rattle.modes.proofs.info_per_symbol.Tie as tie
-use Rattle.modes.proofs.info_per_symbol.Reads as reads
-use Rattle.modes.proofs.info_per_symbol.Lts as lts
-use Rattle.modes.proofs.bits_per_carrier.Reads as bits-per-carrier-reads
 
--- src/lib.rt:69:9
 bits-per-carrier-requires : tie.Need-bits-per-carrier-requires
 bits-per-carrier-requires c κs = search needs
 
--- src/lib.rt:71:23
 enum-told : tie.Need-enum-told
 enum-told c = search needs
 
--- src/lib.rt:71:23
 mul-result : tie.Need-mul-result
 mul-result c = search needs
 
--- src/lib.rt:72:33
 enum-told-2 : tie.Need-enum-told-2
 enum-told-2 c = search needs
 
--- src/lib.rt:72:33
 mul-result-2 : tie.Need-mul-result-2
 mul-result-2 c = search needs
 
--- src/lib.rt:73:32
 enum-told-3 : tie.Need-enum-told-3
 enum-told-3 c = search needs
 
--- src/lib.rt:73:32
 mul-result-3 : tie.Need-mul-result-3
 mul-result-3 c = search needs
 
--- src/lib.rt:64:1
 returns : tie.Need-returns
 returns c = rw (c .enum-told .given .1) (omega arith)
 
--- src/lib.rt:64:1
 returns-2 : tie.Need-returns-2
 returns-2 c = rw (c .enum-told2 .given .1) (omega arith)
 
--- src/lib.rt:64:1
 returns-3 : tie.Need-returns-3
 returns-3 c = rw (c .enum-told3 .given .1) (omega arith)
 
