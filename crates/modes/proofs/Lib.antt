@@ -1,3 +1,4 @@
 pub mod ModeLaws
 pub mod RefusalLaws
 pub mod SizeLaws
+pub mod DescriptionLaws

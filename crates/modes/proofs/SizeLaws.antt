@@ -1,17 +1,34 @@
 -- How large a train's sizes get.
 -- Assumes nothing.
-use Prim.Native.Nat.{ℕ, _*_, _/_, _≤_}
-use native.Mathlib.Nat.{div-le-of-le-mul, mul-le-mul-right, le-trans}
+use mathlib.Core.Path.{_≡_}
+use Prim.Native.Nat.{ℕ, _*_, _≤_}
+use native.Mathlib.Nat.{div-add-mod', div-le-of-le-mul, mul-assoc, mul-le-mul-left, mul-le-mul-right, le-trans}
 use native.Mathlib.Omega.{arith}
 use lib.Dec.{lit≤}
-use Rattle.modes.specs.Modes.{info, infoIn, rowOf, table1}
-use Rattle.modes.specs.Sizes.{symbols}
+use Rattle.modes.specs.Modes.{sent, sentIn, info, infoIn, rowOf, table1}
+use Rattle.modes.specs.Sizes.{symbols, sentBits}
 use Rattle.modes.specs.Description.{Fit}
 use Rattle.modes.proofs.ModeLaws.{by-mode}
 
 info-from-24 : (k : ℕ) → 1 ≤ k → k ≤ 7 → 24 ≤ info k
 unfolding info infoIn rowOf table1
 info-from-24 = by-mode _ (lit≤ tt) (lit≤ tt) (lit≤ tt) (lit≤ tt) (lit≤ tt) (lit≤ tt) (lit≤ tt)
+
+-- whole symbols make the whole train
+pub symbols-exact : (k N : ℕ) → Fit k N → symbols k N * info k ≡ N
+unfolding symbols
+symbols-exact k N fit = omega (arith, div-add-mod' N (info k), fit .whole-symbols)
+
+sent-to-info : (k : ℕ) → 1 ≤ k → k ≤ 7 → sent k ≤ info k * 2
+unfolding sent sentIn info infoIn rowOf table1
+sent-to-info = by-mode _ (lit≤ tt) (lit≤ tt) (lit≤ tt) (lit≤ tt) (lit≤ tt) (lit≤ tt) (lit≤ tt)
+
+-- no more bits are sent than the encoder puts out
+pub sent-within : (k N : ℕ) → Fit k N → sentBits k N ≤ 2 * N
+unfolding sentBits
+sent-within k N fit =
+    le-trans (mul-le-mul-left (symbols k N) (sent-to-info k (fit .from-1) (fit .to-7)))
+    (omega (arith, mul-assoc (symbols k N) (info k) 2, symbols-exact k N fit))
 
 -- no train has more than 144 symbols
 pub symbols-within : (k N : ℕ) → Fit k N → symbols k N ≤ 144
