@@ -68,8 +68,9 @@ fn input_bit(octets: &[u8], n: usize, t: usize, s: u32) -> u32
     requires { ⌜ (t < n → t / 8 < length (now octets)) ⌝ }
     ensures { λ r. ⌜ (r ≡ choose (ltb t n) ((bitOf (now (octets .entry)) t + output s) % 2) 0) × (r < 2) ⌝ }
 {
+    let mask = output_of(s);
     if t < n {
-        (bit_of(octets, t) + output_of(s)) % 2
+        (bit_of(octets, t) + mask) % 2
     } else {
         0
     }

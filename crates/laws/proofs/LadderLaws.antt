@@ -1,9 +1,9 @@
 -- Laws of a ladder of refusals: where it stops, where it goes on, and what "not refused" gives.
 -- Assumes nothing.
 use mathlib.Core.Path.{_≡_, refl}
-use mathlib.Core.Bool.{Bool, true, false, _&&_}
+use mathlib.Core.Bool.{Bool, true, false}
 use mathlib.Core.List.{List, [], _∷_, _++_}
-use Prim.Native.Nat.{ℕ, zero, suc, _<_}
+use Prim.Native.Nat.{ℕ, suc}
 use native.Mathlib.Omega.{arith}
 use lib.Dec.{T, ltb, ltb→lt}
 use Rattle.laws.specs.Ladder.{Rung, _when_, ladder}
@@ -33,3 +33,10 @@ pub ladder-passed : (k : ℕ) (t : Bool) (rest : List Rung) → ladder ((suc k w
 unfolding ladder
 ladder-passed k true rest h = absurd (omega arith)
 ladder-passed k false rest h = (refl, h)
+
+-- a last test that fails changes nothing
+pub ladder-idle : (xs : List Rung) (k : ℕ) → ladder (xs ++ (k when false) ∷ []) ≡ ladder xs
+unfolding ladder
+ladder-idle [] k = refl
+ladder-idle ((j when true) ∷ xs) k = refl
+ladder-idle ((j when false) ∷ xs) k = ladder-idle xs k

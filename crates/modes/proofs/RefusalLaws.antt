@@ -8,9 +8,9 @@ use native.Mathlib.Omega.{arith}
 use lib.Dec.{ltb, eqb}
 use borrow.Author.Tests.{le-ltb, ltb-false, eqb-true, not-false}
 use Rattle.laws.specs.Ladder.{Rung, _when_, ladder}
-use Rattle.laws.proofs.LadderLaws.{ladder-passed, ladder-stops, ladder-goes-on}
+use Rattle.laws.proofs.LadderLaws.{ladder-passed, ladder-stops, ladder-goes-on, ladder-idle}
 use Rattle.modes.specs.Modes.{info}
-use Rattle.modes.specs.Refusals.{outside, placeAbove, lengths, sized, described}
+use Rattle.modes.specs.Refusals.{outside, modeUnknown, placeAbove, lengths, sized, described}
 use Rattle.modes.specs.Description.{Fit, Legal}
 
 neither : (a b : Bool) → (a || b) ≡ false → (a ≡ false) × (b ≡ false)
@@ -41,10 +41,6 @@ lengths-passed perSymbol N rest h =
     }, p5 .1)
 
 -- the lengths are tested once mode and counter have passed
-pub sized-at-3 : (k N : ℕ) → 1 ≤ k → k ≤ 7 → ladder (sized k N) ≡ ladder (lengths (info k) N)
-unfolding ladder sized
-sized-at-3 k N low high = simp (le-ltb k 1 low, le-ltb 7 k high)
-
 described-at-3 : (k counter N a : ℕ) → 1 ≤ k → k ≤ 7 → counter ≤ 15
     → ladder (described k counter N a) ≡ ladder (lengths (info k) N ++ (6 when placeAbove N a) ∷ [])
 unfolding ladder described
@@ -98,3 +94,12 @@ unfolding sized lengths
 sized-fit k N h =
     let p1 = ladder-passed 0 _ _ h in
     fit-of k N (p1 .0) (lengths-passed (info k) N [] (p1 .1) .0)
+
+-- with 0 for counter and a, their tests refuse nothing
+pub described-sized : (k N : ℕ) → ladder (described k 0 N 0) ≡ ladder (sized k N)
+unfolding described sized
+described-sized k N = rw (le-ltb (N - 72) 0 (omega arith)) (go (modeUnknown k))
+  where
+    go : (t : Bool) → ladder ((1 when t) ∷ (2 when false) ∷ lengths (info k) N ++ (6 when false) ∷ []) ≡ ladder ((1 when t) ∷ lengths (info k) N)
+    go true = unfold ladder in refl
+    go false = unfold ladder in ladder-idle (lengths (info k) N) 6

@@ -120,19 +120,6 @@ fn length_refusal(info: u32, n: u32) -> u32
     0
 }
 
-// Refusals 1, 3, 4 and 5: what a mode and a length are tested for.
-pub fn sized_refusal(mode: u32, n: u32) -> u32
-    ensures { λ r. ⌜ r ≡ ladder (sized mode n) ⌝ }
-{
-    if mode < 1 {
-        return 1;
-    }
-    if 7 < mode {
-        return 1;
-    }
-    length_refusal(info_of(mode), n)
-}
-
 // Refusals 1 to 6: what a whole description is tested for.
 pub fn refusal(mode: u32, counter: u32, n: u32, a: u32) -> u32
     ensures { λ r. ⌜ r ≡ ladder (described mode counter n a) ⌝ }
@@ -150,10 +137,14 @@ pub fn refusal(mode: u32, counter: u32, n: u32, a: u32) -> u32
     if r != 0 {
         return r;
     }
-    if n - 72 < a {
-        return 6;
-    }
-    0
+    if n - 72 < a { 6 } else { 0 }
+}
+
+// Refusals 1, 3, 4 and 5: a call that has no counter and no a. With 0 for these, their tests refuse nothing.
+pub fn sized_refusal(mode: u32, n: u32) -> u32
+    ensures { λ r. ⌜ r ≡ ladder (sized mode n) ⌝ }
+{
+    refusal(mode, 0, n, 0)
 }
 
 // The description of numbers that were not refused.

@@ -1,20 +1,22 @@
 -- Groups of bits and their levels (5.5, table 5).
---   _gives_      an entry of table 5: some bits and their level
---   axisI, axisQ table 5 for each axis, in its order; BPSK has no bits on Q
---   level        what table 5 gives, 0 where it gives nothing
---   widthQ       a group's bits for Q: the last ones
---   levelI, levelQ  the levels of a group's value, its earliest bit the highest
---   group        the value of the b bits of one carrier
+--   _gives_          an entry of table 5: some bits and their level
+--   one, two, three  table 5 for so many bits on an axis, in its order
+--   table            table 5 by the number of bits on an axis
+--   level            what a table gives, 0 where it gives nothing
+--   widthQ, widthI   how many of a group's bits are for Q, the last ones, and for I, the first
+--   levelI, levelQ   the levels of a group's value, its earliest bit the highest
+--   group            the value of the b bits of one carrier
+--   allBits          whether every byte is 0 or 1
 -- Assumes nothing.
-use Prim.Native.Nat.{ℕ, zero, suc, _+_, _*_, _/_, _%_, _^_}
-use mathlib.Core.Bool.{Bool}
+use Prim.Native.Nat.{ℕ, zero, suc, _+_, _-_, _*_, _/_, _%_, _^_}
+use mathlib.Core.Bool.{Bool, true, _&&_}
 use mathlib.Core.List.{List, [], _∷_}
-use lib.IntN.{ℤ, pos, negℤ, _*ℤ_}
-use lib.Dec.{eqb}
+use lib.IntN.{ℤ, pos, negℤ}
+use lib.Dec.{ltb, eqb}
 use lib.ListN.{getD}
 use Rattle.laws.specs.Lists.{choose}
 use Rattle.modes.specs.declared.Constellation.{Constellation}
-use Rattle.modes.specs.declared.Constellation.the-variants.{Bpsk, Qpsk, Qam16, Qam64}
+use Rattle.modes.specs.Modes.{bitsOf}
 
 infix 20 _gives_
 -- an entry of table 5: some bits and their level
@@ -46,39 +48,30 @@ three =
     ∷ (0b100 gives pos 7)
     ∷ []
 
--- table 5 for I
-unfoldable pub axisI : Constellation → List Entry
-axisI Bpsk = one
-axisI Qpsk = one
-axisI Qam16 = two
-axisI Qam64 = three
+-- table 5 by the number of bits on an axis
+unfoldable pub table : ℕ → List Entry
+table w = getD ([] ∷ one ∷ two ∷ three ∷ []) w []
 
--- table 5 for Q, on which BPSK has no bits
-unfoldable pub axisQ : Constellation → List Entry
-axisQ Bpsk = []
-axisQ Qpsk = one
-axisQ Qam16 = two
-axisQ Qam64 = three
-
--- what table 5 gives for some bits, 0 where it gives nothing
+-- what a table gives for some bits, 0 where it gives nothing
 unfoldable pub level : List Entry → ℕ → ℤ
 level [] v = pos 0
 level ((b gives l) ∷ es) v = choose (eqb v b) l (level es v)
 
--- how many of a group's bits, the last ones, are for Q
+-- how many of a group's bits, the last ones, are for Q: half, which of BPSK's one bit is none
 unfoldable pub widthQ : Constellation → ℕ
-widthQ Bpsk = 0
-widthQ Qpsk = 1
-widthQ Qam16 = 2
-widthQ Qam64 = 3
+widthQ c = bitsOf c / 2
+
+-- how many, the first ones, are for I
+unfoldable pub widthI : Constellation → ℕ
+widthI c = bitsOf c - widthQ c
 
 -- the level on I of a group's value, its earliest bit the highest
 unfoldable pub levelI : Constellation → ℕ → ℤ
-levelI c g = level (axisI c) (g / 2 ^ widthQ c)
+levelI c g = level (table (widthI c)) (g / 2 ^ widthQ c)
 
 -- the level on Q
 unfoldable pub levelQ : Constellation → ℕ → ℤ
-levelQ c g = level (axisQ c) (g % 2 ^ widthQ c)
+levelQ c g = level (table (widthQ c)) (g % 2 ^ widthQ c)
 
 -- the value of the b bits from `from` on, the earliest the highest
 unfoldable pub valueOf : List ℕ → ℕ → ℕ → ℕ
@@ -88,3 +81,8 @@ valueOf bits from (suc b) = 2 * valueOf bits from b + getD bits (from + b) 0
 -- the value of the b bits of carrier c
 unfoldable pub group : ℕ → List ℕ → ℕ → ℕ
 group b bits c = valueOf bits (b * c) b
+
+-- whether every byte is 0 or 1
+unfoldable pub allBits : List ℕ → Bool
+allBits [] = true
+allBits (x ∷ xs) = ltb x 2 && allBits xs
