@@ -3,3 +3,4 @@ pub mod Tables
 pub mod LadderLaws
 pub mod SumLaws
 pub mod ScatterLaws
+pub mod AnswerLaws

@@ -2,3 +2,4 @@ pub mod Lists
 pub mod Sums
 pub mod Ladder
 pub mod Scatter
+pub mod Answers

@@ -1,2 +1,5 @@
 pub mod SendLaws
 pub mod EncodeLaws
+pub mod IdealLaws
+pub mod PointLaws
+pub mod Determined

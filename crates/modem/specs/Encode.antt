@@ -4,13 +4,13 @@
 --   Encode         its answer, and what it leaves in the lent buffer
 -- Assumes nothing.
 use Prim.Native.Nat.{ℕ}
-use mathlib.Core.Path.{_≡_}
 use mathlib.Core.Bool.{not}
 use mathlib.Core.List.{List, [], _∷_, _++_}
 use lib.Dec.{ltb, eqb}
 use lib.ListN.{length}
 use Rattle.laws.specs.Ladder.{_when_, ladder}
 use Rattle.laws.specs.Lists.{filled}
+use Rattle.laws.specs.Answers.{Answers}
 use Rattle.modes.specs.Sizes.{sentBits, octetsOf}
 use Rattle.modes.specs.Refusals.{described}
 use Rattle.places.specs.Selection.{origin}
@@ -31,7 +31,8 @@ encodeRefusal mode counter N a octets sent =
     ∷ [])
 
 -- the answer r, and the buffer: on success the n sent bits and the rest as it was, on a refusal all as it was
-pub record Encode (mode counter N a : ℕ) (octets sent : List ℕ) (r : ℕ) (sent′ : List ℕ) : Type 0 where
-  pub answer : r ≡ encodeRefusal mode counter N a octets sent
-  pub done : r ≡ 0 → sent′ ≡ filled (sentBits mode N) (sentBit mode counter N a octets) sent
-  pub refused : (r ≡ 0 → ⊥) → sent′ ≡ sent
+unfoldable pub Encode : (mode counter N a : ℕ) → (octets sent : List ℕ) → (r : ℕ) → (sent′ : List ℕ) → Type 0
+Encode mode counter N a octets sent r sent′ =
+    Answers (encodeRefusal mode counter N a octets sent)
+    (filled (sentBits mode N) (sentBit mode counter N a octets) sent) sent
+    r sent′

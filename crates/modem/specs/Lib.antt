@@ -1,1 +1,3 @@
 pub mod Encode
+pub mod Ideal
+pub mod Point

@@ -1,0 +1,25 @@
+-- Laws of what a call leaves behind: how it is shown, and that it is fixed.
+-- Assumes nothing.
+use mathlib.Core.Path.{_≡_, refl, sym, _∙_}
+use mathlib.Core.Bool.{Bool, true, false}
+use Prim.Native.Nat.{ℕ}
+use lib.Dec.{eqb}
+use borrow.Author.Tests.{eqb-true, eqb-false}
+use Rattle.laws.specs.Answers.{Answers}
+
+module _ {B : Type 0} (number : ℕ) (after before : B) where
+  pub refused-with : (r : ℕ) → r ≡ number → (r ≡ 0 → ⊥) → Answers number after before r before
+  refused-with r e h = record { answer = e; done = λ z. absurd (h z); refused = λ _. refl }
+
+  pub done-with : (left : B) → number ≡ 0 → left ≡ after → Answers number after before 0 left
+  done-with left e is = record { answer = sym e; done = λ _. is; refused = λ h. absurd (h refl) }
+
+  -- two answers that are allowed, and what they leave, are the same
+  pub determined : (r r′ : ℕ) (left left′ : B) → Answers number after before r left → Answers number after before r′ left′ → (r ≡ r′) × (left ≡ left′)
+  determined r r′ left left′ p q = (same, go (eqb r 0) refl)
+    where
+      same : r ≡ r′
+      same = p .answer ∙ sym (q .answer)
+      go : (t : Bool) → eqb r 0 ≡ t → left ≡ left′
+      go true e = p .done (eqb-true r 0 e) ∙ sym (q .done (sym same ∙ eqb-true r 0 e))
+      go false e = p .refused (eqb-false r 0 e) ∙ sym (q .refused (λ z. eqb-false r 0 e (same ∙ z)))

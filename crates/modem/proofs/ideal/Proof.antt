@@ -1,0 +1,139 @@
+-- `modem::ideal` keeps its promise, test by test (IdealLaws).
+-- Assumes nothing.
+use mathlib.Core.Path.{_≡_, refl, sym, _∙_, ap, ap₂, subst}
+use Prim.Native.Nat.{ℕ, _*_, _≤_}
+use native.Mathlib.Omega.{arith}
+use lib.ListN.{length}
+use borrow.Author.Tests.{not-true, not-false}
+use Rattle.laws.specs.Lists.{filled}
+use Rattle.modes.specs.declared.Constellation.{Constellation}
+use Rattle.points.specs.Points.{idealI, idealQ}
+use Rattle.laws.specs.Ladder.{ladder}
+use Rattle.modes.specs.Modes.{number, numberOf, bitsOf, constellationOf}
+use Rattle.modes.specs.Sizes.{symbols, carriers, sentBits}
+use Rattle.modes.specs.Refusals.{sized}
+use Rattle.modes.specs.Description.{Fit}
+use Rattle.modes.proofs.ModeLaws.{number-back}
+use Rattle.modes.proofs.RefusalLaws.{sized-fit}
+use Rattle.modem.proofs.IdealLaws.{ideal-1-to-5, ideal-7, ideal-8-i, ideal-8-q, ideal-9, ideal-done, carriers-exact}
+use borrow.Author.Needs.{needs}
+use Rattle.modem.proofs.ideal.Statement.{statement}
+use Rattle.modem.proofs.ideal.Tie as tie
+
+-- the function's entry, and what is known once mode and length have passed
+abbrev entry : tie.After-mode-of → tie.Start
+entry c = c .before .before .before .before
+
+zero : (c : tie.After-mode-of) → ladder (sized (entry c .args .mode) (entry c .args .n)) ≡ 0
+zero c = sym (c .before .before .sized-refusal .ensures) ∙ c .before .if1 .left
+
+fit : (c : tie.After-mode-of) → Fit (entry c .args .mode) (entry c .args .n)
+fit c = sized-fit _ _ (zero c)
+
+same-mode : (c : tie.After-mode-of) → number (c .mode-of .result) ≡ entry c .args .mode
+same-mode c = ap₂ numberOf (c .mode-of .ensures .0) (c .mode-of .ensures .1) ∙ number-back _ (fit c .from-1) (fit c .to-7)
+
+made : (c : tie.After-mode-of) → Fit (number (c .mode-of .result)) (entry c .args .n)
+made c = subst (λ (k : ℕ). Fit k (entry c .args .n)) (sym (same-mode c)) (fit c)
+
+-- the sent bits were counted right, and so were the carriers
+counted : (c : tie.After-sent-bits) → c .sent-bits .result ≡ sentBits (entry (c .before) .args .mode) (entry (c .before) .args .n)
+counted c = c .sent-bits .ensures ∙ ap (λ (k : ℕ). sentBits k (entry (c .before) .args .n)) (same-mode (c .before))
+
+all-carriers : (c : tie.After-symbols-of) → 48 * c .symbols-of .result ≡ carriers (entry (c .before .before .before) .args .mode) (entry (c .before .before .before) .args .n)
+unfolding carriers
+all-carriers c =
+    ap (λ (s : ℕ). 48 * s) (c .symbols-of .ensures .0 ∙ ap (λ (k : ℕ). symbols k (entry (c .before .before .before) .args .n)) (same-mode (c .before .before .before)))
+
+sized-refusal-requires : tie.Need-sized-refusal-requires
+sized-refusal-requires c κs = search needs
+
+returns : tie.Need-returns
+returns c = ideal-1-to-5 _ _ _ _ _ _ (c .before .sized-refusal .ensures) (c .if1 .taken)
+
+mode-of-requires : tie.Need-mode-of-requires
+mode-of-requires c κs = search needs
+
+sent-bits-requires : tie.Need-sent-bits-requires
+sent-bits-requires c κs = made c
+
+returns-2 : tie.Need-returns-2
+returns-2 c = ideal-7 _ _ _ _ _ (zero (c .before .before)) (λ e. c .if2 .taken (e ∙ sym (counted (c .before))))
+
+symbols-of-requires : tie.Need-symbols-of-requires
+symbols-of-requires c κs = made (c .before .before)
+
+mul-carriers : tie.Need-mul-carriers
+mul-carriers c = search needs
+
+returns-3 : tie.Need-returns-3
+returns-3 c =
+    let s = c .before in
+    ideal-8-i _ _ _ _ _ (zero (s .before .before .before)) (s .before .if2 .left ∙ counted (s .before .before)) (rw (all-carriers s) at (c .if3 .taken))
+
+returns-4 : tie.Need-returns-4
+returns-4 c =
+    let s = c .before .before in
+    ideal-8-q _ _ _ _ _ (zero (s .before .before .before)) (s .before .if2 .left ∙ counted (s .before .before))
+    (rw (all-carriers s) at (c .before .if3 .left)) (rw (all-carriers s) at (c .if4 .taken))
+
+bits-ok-requires : tie.Need-bits-ok-requires
+bits-ok-requires c κs = search needs
+
+returns-5 : tie.Need-returns-5
+returns-5 c = 
+    let s = c .before .before .before .before in
+    ideal-9 _ _ _ _ _ (zero (s .before .before .before)) (s .before .if2 .left ∙ counted (s .before .before))
+    (rw (all-carriers s) at (c .before .before .before .if3 .left)) (rw (all-carriers s) at (c .before .before .if4 .left))
+    (sym (c .before .bits-ok .ensures) ∙ not-true _ (c .if5 .taken))
+
+readings-requires : tie.Need-readings-requires
+readings-requires c κs = 
+    let s = c .before .before .before .before .before .before in
+    let m = s .before .before .before in
+    let all : bitsOf (constellationOf (entry m .args .mode)) * carriers (entry m .args .mode) (entry m .args .n) ≡ length (entry m .args .sent .now) =
+        carriers-exact _ _ (fit m) ∙ sym (s .before .if2 .left ∙ counted (s .before .before))
+    in
+    record {
+      enough = rw (m .mode-of .ensures .0, all-carriers s) (omega (arith, all));
+      onI = c .before .before .before .before .before .if3 .left;
+      onQ = c .before .before .before .before .if4 .left
+    }
+
+same-length : tie.Need-same-length
+same-length c = search needs
+
+same-length-2 : tie.Need-same-length-2
+same-length-2 c = search needs
+
+returns-6 : tie.Need-returns-6
+returns-6 c = 
+    let s = c .before .before .before .before .before .before .before .before .before in
+    let m = s .before .before .before in
+    let made = c .before .before .readings .ensures in
+    ideal-done _ _ _ _ _ (zero m) (s .before .if2 .left ∙ counted (s .before .before))
+    (rw (all-carriers s) at (c .before .before .before .before .before .before .before .before .if3 .left))
+    (rw (all-carriers s) at (c .before .before .before .before .before .before .before .if4 .left))
+    _ _ (sym (c .before .before .before .before .before .before .bits-ok .ensures) ∙ not-false _ (c .before .before .before .before .before .if5 .left))
+    (made .onI ∙ ap₂ (λ (k : Constellation) (n : ℕ). filled n (idealI k (entry m .args .sent .now)) (entry m .args .i .now)) (m .mode-of .ensures .0) (all-carriers s))
+    (made .onQ ∙ ap₂ (λ (k : Constellation) (n : ℕ). filled n (idealQ k (entry m .args .sent .now)) (entry m .args .q .now)) (m .mode-of .ensures .0) (all-carriers s))
+
+pub ideal-spec : {M : Type 1} → statement M
+ideal-spec =
+    tie.close
+    (tie.spec
+    sized-refusal-requires
+    returns
+    mode-of-requires
+    sent-bits-requires
+    returns-2
+    symbols-of-requires
+    mul-carriers
+    returns-3
+    returns-4
+    bits-ok-requires
+    returns-5
+    readings-requires
+    same-length
+    same-length-2
+    returns-6)
