@@ -1,11 +1,11 @@
 -- Every call's promise fixes its answer and what it leaves: two that it allows, for the same inputs and entry buffers, are the same.
 -- Assumes nothing.
-use mathlib.Core.Path.{_≡_, ap}
+use mathlib.Core.Path.{_≡_}
 use mathlib.Core.List.{List}
 use Prim.Native.Nat.{ℕ}
+use lib.Ieee.{Float}
 use lib.IntN.{ℤ}
 use Rattle.laws.proofs.AnswerLaws.{determined}
-use Rattle.modem.specs.declared.Mapping.{Mapping}
 use Rattle.modem.specs.Encode.{Encode}
 use Rattle.modem.specs.Ideal.{Ideal}
 use Rattle.modem.specs.Point.{MapsTo}
@@ -22,8 +22,9 @@ ideal-determined mode N sent i q r r′ i₁ q₁ i₂ q₂ p p′ =
     let (same, left) = determined _ _ _ r r′ (i₁, q₁) (i₂, q₂) p p′ in
     (same, λ t. left t .0, λ t. left t .1)
 
-pub mapped-determined : (mode group : ℕ) (r r′ : Mapping) → MapsTo mode group r → MapsTo mode group r′ → r ≡ r′
+pub mapped-determined : (mode group r r′ : ℕ) (i i′ q q′ : Float)
+    → MapsTo mode group r i q → MapsTo mode group r′ i′ q′ → (r ≡ r′) × (i ≡ i′) × (q ≡ q′)
 unfolding MapsTo
-mapped-determined mode group r r′ p p′ =
-    let (same, left) = determined _ _ _ (r .refusal) (r′ .refusal) (r .point .i, r .point .q) (r′ .point .i, r′ .point .q) p p′ in
-    λ t. record { refusal = same t; point = record { i = left t .0; q = left t .1 } }
+mapped-determined mode group r r′ i i′ q q′ p p′ =
+    let (same, left) = determined _ _ _ r r′ (i, q) (i′, q′) p p′ in
+    (same, λ t. left t .0, λ t. left t .1)

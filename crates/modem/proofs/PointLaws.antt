@@ -3,7 +3,7 @@
 use mathlib.Core.Path.{_≡_, refl, sym, _∙_, ap}
 use mathlib.Core.List.{[], _∷_}
 use Prim.Native.Nat.{ℕ, _*_, _%_, _^_, _≤_, _<_}
-use native.Mathlib.Omega.{arith}
+use lib.Ieee.{Float}
 use borrow.Author.Tests.{lt-ltb, le-ltb, le-leb, lt-leb}
 use Rattle.laws.specs.Ladder.{_when_, ladder}
 use Rattle.modes.specs.declared.Constellation.{Constellation}
@@ -12,7 +12,6 @@ use Rattle.modes.specs.Modes.{constellationOf, bits, bitsOf}
 use Rattle.modes.proofs.ModeLaws.{columns}
 use Rattle.points.specs.Levels.{levelI, levelQ}
 use Rattle.points.specs.Points.{part}
-use Rattle.modem.specs.declared.Mapping.{Mapping}
 use Rattle.modem.specs.Point.{plusZero, mappedRefusal, MapsTo}
 
 -- the groups of a carrier, as the code counts them
@@ -27,10 +26,10 @@ groups-of mode b c low high ec eb =
     rw (eb, groups c, ec, columns mode low high .0) refl
 
 -- a refused call's answer
-pub refused-as : (mode group k : ℕ) (r : Mapping) → mappedRefusal mode group ≡ k → (k ≡ 0 → ⊥)
-    → (r .refusal ≡ k) × (r .point .i ≡ plusZero) × (r .point .q ≡ plusZero) → MapsTo mode group r
+pub refused-as : (mode group k r : ℕ) (i q : Float) → mappedRefusal mode group ≡ k → (k ≡ 0 → ⊥)
+    → (r ≡ k) × (i ≡ plusZero) × (q ≡ plusZero) → MapsTo mode group r i q
 unfolding MapsTo
-refused-as mode group k r e h (er, ei, eq) =
+refused-as mode group k r i q e h (er, ei, eq) =
     record { answer = er ∙ sym e; done = λ z. absurd (h (sym er ∙ z)); refused = λ _ t. (ei t, eq t) }
 
 pub refusal-below-1 : (mode group : ℕ) → mode < 1 → mappedRefusal mode group ≡ 1
@@ -45,15 +44,15 @@ pub refusal-9 : (mode group : ℕ) → 1 ≤ mode → mode ≤ 7 → 2 ^ bits mo
 unfolding mappedRefusal ladder
 refusal-9 mode group low high h = simp (le-ltb _ _ low, le-ltb _ _ high, le-leb _ _ h)
 
-pub mapped-done : (mode group : ℕ) (c : Constellation) (r : Mapping) → 1 ≤ mode → mode ≤ 7 → group < 2 ^ bits mode → c ≡ constellationOf mode
-    → r .refusal ≡ 0 → (r .point .i ≡ part c (levelI c group)) × (r .point .q ≡ part c (levelQ c group)) → MapsTo mode group r
+pub mapped-done : (mode group : ℕ) (c : Constellation) (i q : Float) → 1 ≤ mode → mode ≤ 7 → group < 2 ^ bits mode → c ≡ constellationOf mode
+    → (i ≡ part c (levelI c group)) × (q ≡ part c (levelQ c group)) → MapsTo mode group 0 i q
 unfolding MapsTo mappedRefusal ladder
-mapped-done mode group c r low high h ec er (ei, eq) =
+mapped-done mode group c i q low high h ec (ei, eq) =
     record {
-      answer = er ∙ simp (le-ltb _ _ low, le-ltb _ _ high, lt-leb _ _ h);
+      answer = simp (le-ltb _ _ low, le-ltb _ _ high, lt-leb _ _ h);
       done = λ _ t. (
         (ei ∙ ap (λ (k : Constellation). part k (levelI k group)) ec) t,
         (eq ∙ ap (λ (k : Constellation). part k (levelQ k group)) ec) t,
       );
-      refused = λ z. absurd (z er)
+      refused = λ z. absurd (z refl)
     }

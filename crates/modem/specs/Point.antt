@@ -13,7 +13,6 @@ use Rattle.modes.specs.Modes.{constellationOf, bits}
 use Rattle.modes.specs.Refusals.{modeUnknown}
 use Rattle.points.specs.Levels.{levelI, levelQ}
 use Rattle.points.specs.Points.{part}
-use Rattle.modem.specs.declared.Mapping.{Mapping}
 
 -- +0
 abbrev pub plusZero : Float
@@ -23,10 +22,10 @@ plusZero = ofBits binary32 0
 unfoldable pub mappedRefusal : (mode group : ℕ) → ℕ
 mappedRefusal mode group = ladder ((1 when modeUnknown mode) ∷ (9 when leb (2 ^ bits mode) group) ∷ [])
 
--- the answer r: on success the point, on a refusal +0 and +0
-unfoldable pub MapsTo : (mode group : ℕ) → Mapping → Type 0
-MapsTo mode group r =
+-- the answer r and the point i, q: on success the point of the group, on a refusal +0 and +0
+unfoldable pub MapsTo : (mode group r : ℕ) → (i q : Float) → Type 0
+MapsTo mode group r i q =
     Answers {B = Float × Float} (mappedRefusal mode group)
     (part (constellationOf mode) (levelI (constellationOf mode) group), part (constellationOf mode) (levelQ (constellationOf mode) group))
     (plusZero, plusZero)
-    (r .refusal) (r .point .i, r .point .q)
+    r (i, q)

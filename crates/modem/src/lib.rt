@@ -95,7 +95,7 @@ fn refused_point(refusal: u32) -> Mapping
 
 // The point of one group value, its earliest bit the highest.
 pub fn mapped(mode: u32, group: u32) -> Mapping
-    ensures { λ r. ⌜ MapsTo mode group r ⌝ }
+    ensures { λ r. ⌜ MapsTo mode group (r .refusal) (r .point .i) (r .point .q) ⌝ }
 {
     if mode < 1 {
         return refused_point(1);

@@ -2,6 +2,7 @@
 -- Assumes nothing.
 use mathlib.Core.Path.{_≡_, refl, sym, _∙_, ap, ap₂}
 use Prim.Native.Nat.{ℕ, _/_}
+use native.Mathlib.Omega.{arith}
 use Rattle.laws.specs.Ladder.{ladder}
 use Rattle.modes.specs.Modes.{number}
 use Rattle.modes.specs.Sizes.{sentBits, octetsOf}
@@ -57,7 +58,7 @@ returns-3 : tie.Need-returns-3
 returns-3 c = 
     let at = c .before .before .before .before in
     encode-8 _ _ _ _ _ _ (zero at) (c .before .before .if2 .left ∙ same-octets at)
-    (rw (c .before .sent-bits .ensures ∙ same-n at) at (c .if3 .taken))
+    (omega (arith, c .before .sent-bits .ensures ∙ same-n at))
 
 send-requires : tie.Need-send-requires
 send-requires c κs = 
@@ -78,7 +79,7 @@ returns-4 c =
     let at = c .before .before .before .before .before .before .before .before in
     let d = at .train-of .ensures in
     encode-done _ _ _ _ _ _ (zero at) _ (c .before .before .before .before .before .before .if2 .left ∙ same-octets at)
-    (rw (c .before .before .before .before .before .sent-bits .ensures ∙ same-n at) at (c .before .before .before .before .if3 .left))
+    (omega (arith, c .before .before .before .before .before .sent-bits .ensures ∙ same-n at))
     (c .before .before .send .ensures ∙ same-sent _ _ _ _ _ _ _ _ _ _ (same-mode at) (d .counter-is) (d .n-is) (d .a-is))
 
 pub encode-spec : {M : Type 1} → statement M

@@ -69,13 +69,13 @@ mul-carriers c = search needs
 returns-3 : tie.Need-returns-3
 returns-3 c =
     let s = c .before in
-    ideal-8-i _ _ _ _ _ (zero (s .before .before .before)) (s .before .if2 .left ∙ counted (s .before .before)) (rw (all-carriers s) at (c .if3 .taken))
+    ideal-8-i _ _ _ _ _ (zero (s .before .before .before)) (s .before .if2 .left ∙ counted (s .before .before)) (omega (arith, all-carriers s))
 
 returns-4 : tie.Need-returns-4
 returns-4 c =
     let s = c .before .before in
     ideal-8-q _ _ _ _ _ (zero (s .before .before .before)) (s .before .if2 .left ∙ counted (s .before .before))
-    (rw (all-carriers s) at (c .before .if3 .left)) (rw (all-carriers s) at (c .if4 .taken))
+    (omega (arith, all-carriers s)) (omega (arith, all-carriers s))
 
 bits-ok-requires : tie.Need-bits-ok-requires
 bits-ok-requires c κs = search needs
@@ -84,7 +84,7 @@ returns-5 : tie.Need-returns-5
 returns-5 c = 
     let s = c .before .before .before .before in
     ideal-9 _ _ _ _ _ (zero (s .before .before .before)) (s .before .if2 .left ∙ counted (s .before .before))
-    (rw (all-carriers s) at (c .before .before .before .if3 .left)) (rw (all-carriers s) at (c .before .before .if4 .left))
+    (omega (arith, all-carriers s)) (omega (arith, all-carriers s))
     (sym (c .before .bits-ok .ensures) ∙ not-true _ (c .if5 .taken))
 
 readings-requires : tie.Need-readings-requires
@@ -112,8 +112,8 @@ returns-6 c =
     let m = s .before .before .before in
     let made = c .before .before .readings .ensures in
     ideal-done _ _ _ _ _ (zero m) (s .before .if2 .left ∙ counted (s .before .before))
-    (rw (all-carriers s) at (c .before .before .before .before .before .before .before .before .if3 .left))
-    (rw (all-carriers s) at (c .before .before .before .before .before .before .before .if4 .left))
+    (omega (arith, all-carriers s, c .before .before .before .before .before .before .before .before .if3 .left))
+    (omega (arith, all-carriers s, c .before .before .before .before .before .before .before .if4 .left))
     _ _ (sym (c .before .before .before .before .before .before .bits-ok .ensures) ∙ not-false _ (c .before .before .before .before .before .if5 .left))
     (made .onI ∙ ap₂ (λ (k : Constellation) (n : ℕ). filled n (idealI k (entry m .args .sent .now)) (entry m .args .i .now)) (m .mode-of .ensures .0) (all-carriers s))
     (made .onQ ∙ ap₂ (λ (k : Constellation) (n : ℕ). filled n (idealQ k (entry m .args .sent .now)) (entry m .args .q .now)) (m .mode-of .ensures .0) (all-carriers s))

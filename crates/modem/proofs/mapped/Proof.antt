@@ -1,6 +1,6 @@
 -- `modem::mapped` keeps its promise, test by test (PointLaws).
 -- Assumes nothing.
-use mathlib.Core.Path.{_≡_, refl}
+use mathlib.Core.Path.{_≡_}
 use Prim.Native.Nat.{_*_, _%_, _^_}
 use native.Mathlib.Omega.{arith}
 use Rattle.modes.specs.Modes.{bits}
@@ -17,14 +17,14 @@ refused-point-requires : tie.Need-refused-point-requires
 refused-point-requires c κs = search needs
 
 returns : tie.Need-returns
-returns c = refused-as _ _ 1 _ (refusal-below-1 _ _ (c .before .if1 .taken)) (λ z. omega arith) (c .refused-point .ensures)
+returns c = refused-as _ _ 1 _ _ _ (refusal-below-1 _ _ (c .before .if1 .taken)) (λ z. omega arith) (c .refused-point .ensures)
 
 refused-point-requires-2 : tie.Need-refused-point-requires-2
 refused-point-requires-2 c κs = search needs
 
 returns-2 : tie.Need-returns-2
 returns-2 c =
-    refused-as _ _ 1 _ (refusal-above-7 _ _ (c .before .before .if1 .left) (c .before .if2 .taken)) (λ z. omega arith) (c .refused-point2 .ensures)
+    refused-as _ _ 1 _ _ _ (refusal-above-7 _ _ (c .before .before .if1 .left) (c .before .if2 .taken)) (λ z. omega arith) (c .refused-point2 .ensures)
 
 mode-of-requires : tie.Need-mode-of-requires
 mode-of-requires c κs = search needs
@@ -41,7 +41,7 @@ refused-point-requires-3 c κs = search needs
 returns-3 : tie.Need-returns-3
 returns-3 c =
     let at = c .before .before in
-    refused-as _ _ 9 _ (refusal-9 _ _ (omega arith) (omega arith) (rw (counted at) at (c .before .if3 .taken))) (λ z. omega arith) (c .refused-point3 .ensures)
+    refused-as _ _ 9 _ _ _ (refusal-9 _ _ (omega arith) (omega arith) (omega (arith, counted at))) (λ z. omega arith) (c .refused-point3 .ensures)
 
 point-of-requires : tie.Need-point-of-requires
 point-of-requires c κs = search needs
@@ -49,7 +49,7 @@ point-of-requires c κs = search needs
 returns-4 : tie.Need-returns-4
 returns-4 c =
     let at = c .before .before in
-    mapped-done _ _ _ _ (omega arith) (omega arith) (rw (counted at) at (c .before .if3 .left)) (at .before .mode-of .ensures .0) refl (c .point-of .ensures)
+    mapped-done _ _ _ _ _ (omega arith) (omega arith) (omega (arith, counted at)) (at .before .mode-of .ensures .0) (c .point-of .ensures)
 
 pub mapped-spec : {M : Type 1} → statement M
 mapped-spec =

@@ -21,7 +21,7 @@ code-requires : tie.Need-code-requires
 code-requires c κs =
     let start = c .before .before .before .before .before .before in
     let legal = start .pre .0 in
-    (legal .to-15, legal .fit .to-3456, train-octets _ _ _ _ _ legal (start .args .octets .now) (start .pre .1 .0), omega (arith, legal .fit .to-3456, c .before .coded-room .ensures))
+    (omega (arith, legal .to-15), legal .fit .to-3456, train-octets _ _ _ _ _ legal (start .args .octets .now) (start .pre .1 .0), omega (arith, legal .fit .to-3456, c .before .coded-room .ensures))
 
 slice-aggregate-send-pdu : tie.Need-slice-aggregate-send-pdu
 slice-aggregate-send-pdu c = search needs

@@ -36,7 +36,9 @@ room : (c : tie.In-loop Inv-loop μ-loop)
     → c .before .loop .base + 48 * c .before .before .bits-per-carrier .result
     ≤ c .before .before .before .before .before .before .args .symbols * (48 * bitsOf (c .before .before .before .before .before .before .args .mode .constellation))
 room c =
-    symbol-inside (c .before .before .before .before .before .before .args .mode .constellation) _ (c .before .before .bits-per-carrier .ensures .0) _ _ _ (c .before .loop .inv .1 .counted) (c .loop-test .taken)
+    let start = c .before .before .before .before .before .before in
+    symbol-inside (start .args .mode .constellation) _ (c .before .before .bits-per-carrier .ensures .0) (c .before .loop .symbol) (start .args .symbols) _
+    (c .before .loop .inv .1 .counted) (omega arith)
 
 send-symbol-requires : tie.Need-send-symbol-requires Inv-loop μ-loop
 send-symbol-requires c κs =

@@ -1,0 +1,33 @@
+/* The calls of libjuzambore.a (`rt staticlib juzambore`).
+ *
+ * Every input of any length is accepted. Each call tests what it is given and answers bad input with the refusal
+ * number of document 01 (0: done); it then changes no lent byte. A lent buffer that is longer than the call needs is
+ * unchanged past the needed length. Lent buffers must not overlap. */
+#ifndef JUZAMBORE_H
+#define JUZAMBORE_H
+
+#include <stddef.h>
+#include <stdint.h>
+
+/* A refusal number, and the point of a carrier; +0 and +0 where the call is refused. */
+typedef struct {
+    uint32_t refusal;
+    float i;
+    float q;
+} juzambore_point;
+
+/* The sent bits of a train of n information bits, one to a byte. Refusals 1 to 8. */
+uint32_t juzambore_encode(uint32_t mode, uint32_t counter, uint32_t n, uint32_t a,
+                          const uint8_t *octets, size_t octets_len,
+                          uint8_t *sent, size_t sent_len);
+
+/* The ideal readings of sent bits, 48 to a symbol on each axis. Refusals 1, 3, 4, 5, 7, 8, 9. */
+uint32_t juzambore_ideal(uint32_t mode, uint32_t n,
+                         const uint8_t *sent, size_t sent_len,
+                         int16_t *i, size_t i_len,
+                         int16_t *q, size_t q_len);
+
+/* The point of one group value, its earliest bit the highest. Refusals 1 and 9. */
+juzambore_point juzambore_mapped(uint32_t mode, uint32_t group);
+
+#endif
