@@ -36,7 +36,7 @@ coding-start counter N octets l h =
       inputs = refl;
       seven-bits = omega arith;
       pairs = sym (filled-none (codedBit counter N octets) l);
-      long = refl
+      long = refl;
     }
 
 module _ (counter N : ℕ) (octets l₀ : List ℕ) (room : 2 * (N + 6) ≤ length l₀) where
@@ -62,7 +62,7 @@ module _ (counter N : ℕ) (octets l₀ : List ℕ) (room : 2 * (N + 6) ≤ leng
         inputs = rw (add-one t) is-register;
         seven-bits = er .1;
         pairs = rw (el, c .pairs, x, y) (filled-pair t (codedBit counter N octets) l₀ (omega arith));
-        long = rw el (simp length-set (c .long))
+        long = rw el (simp length-set (c .long));
       }
 
 pub coding-done : (counter N : ℕ) (octets l₀ l : List ℕ) (s r t : ℕ)

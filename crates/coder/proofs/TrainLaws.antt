@@ -48,6 +48,7 @@ input-at counter N octets t = go (ltb t N) refl
   where
     e : length (scrambled counter N octets) ≡ N
     e = scrambled-length counter N octets
+
     go : (b : Bool) → ltb t N ≡ b → getD (tailed (scrambled counter N octets)) t 0 ≡ choose b (scrambledBit counter octets t) 0
     go true h =
         tailed-before (scrambled counter N octets) t (rw e (ltb-true t N h))

@@ -11,6 +11,7 @@ ghost use Rattle.coder.specs.Register.{entered, parity, maskX, maskY};
 
 // The polynomials as masks of the seven-bit register, whose newest bit is the highest.
 const X_TAPS: u32 = 0o133;
+
 const Y_TAPS: u32 = 0o171;
 
 fn wide(octet: u8) -> u32

@@ -12,14 +12,27 @@ pub struct JuzamborePoint {
 }
 
 #[no_mangle]
-pub extern "C" fn juzambore_encode(mode: u32, counter: u32, n: u32, a: u32, octets: &[u8], sent: &mut [u8]) -> u32
+pub extern "C" fn juzambore_encode(
+    mode: u32,
+    counter: u32,
+    n: u32,
+    a: u32,
+    octets: &[u8],
+    sent: &mut [u8],
+) -> u32
     ensures { λ r. ⌜ Encode mode counter n a (now (octets .entry)) (now (sent .entry)) r (now (sent .exit)) ⌝ }
 {
     modem::encode(mode, counter, n, a, octets, sent)
 }
 
 #[no_mangle]
-pub extern "C" fn juzambore_ideal(mode: u32, n: u32, sent: &[u8], i: &mut [i16], q: &mut [i16]) -> u32
+pub extern "C" fn juzambore_ideal(
+    mode: u32,
+    n: u32,
+    sent: &[u8],
+    i: &mut [i16],
+    q: &mut [i16],
+) -> u32
     ensures { λ r. ⌜ Ideal mode n (now (sent .entry)) (now (i .entry)) (now (q .entry)) r (now (i .exit)) (now (q .exit)) ⌝ }
 {
     modem::ideal(mode, n, sent, i, q)
@@ -30,5 +43,9 @@ pub extern "C" fn juzambore_mapped(mode: u32, group: u32) -> JuzamborePoint
     ensures { λ r. ⌜ MapsTo mode group (r .refusal) (r .i) (r .q) ⌝ }
 {
     let m = modem::mapped(mode, group);
-    JuzamborePoint { refusal: m.refusal, i: m.point.i, q: m.point.q }
+    JuzamborePoint {
+        refusal: m.refusal,
+        i: m.point.i,
+        q: m.point.q,
+    }
 }

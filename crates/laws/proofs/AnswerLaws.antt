@@ -20,6 +20,7 @@ module _ {B : Type 0} (number : ℕ) (after before : B) where
     where
       same : r ≡ r′
       same = p .answer ∙ sym (q .answer)
+
       go : (t : Bool) → eqb r 0 ≡ t → left ≡ left′
       go true e = p .done (eqb-true r 0 e) ∙ sym (q .done (sym same ∙ eqb-true r 0 e))
       go false e = p .refused (eqb-false r 0 e) ∙ sym (q .refused (λ z. eqb-false r 0 e (same ∙ z)))

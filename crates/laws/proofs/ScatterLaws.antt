@@ -28,7 +28,7 @@ module _ (base size : ℕ) (table : List ℕ) (v : ℕ → ℕ) (l : List ℕ) (
         long = length-set l′ (base + j) x ∙ s .long;
         put = λ i hi. put i hi (ltb i k) refl;
         before = λ q hq. getD-set-other l′ (base + j) q x 0 (omega arith) ∙ s .before q hq;
-        behind = λ q hq. getD-set-other l′ (base + j) q x 0 (omega arith) ∙ s .behind q hq
+        behind = λ q hq. getD-set-other l′ (base + j) q x 0 (omega arith) ∙ s .behind q hq;
       }
     where
       put : (i : ℕ) → i < k + 1 → (b : Bool) → ltb i k ≡ b → getD (set l′ (base + getD table k 0) x) (base + getD table i 0) 0 ≡ v i
@@ -55,6 +55,7 @@ scattered-all base size table v f back l₀ l′ room seat s =
     placed j h =
         let (inside, there, same) = seat j h in
         ap (λ (i : ℕ). getD l′ (base + i) 0) (sym there) ∙ s .put (back j) inside ∙ sym same
+
     front : (q : ℕ) → q < base + size → (b : Bool) → ltb q base ≡ b → getD l′ q 0 ≡ f q
     front q h true t = s .before q (ltb-true q base t) ∙ filled-at base f l₀ q 0 (ltb-true q base t)
     front q h false t =

@@ -54,5 +54,5 @@ mapped-done mode group c i q low high h ec (ei, eq) =
         (ei ∙ ap (λ (k : Constellation). part k (levelI k group)) ec) t,
         (eq ∙ ap (λ (k : Constellation). part k (levelQ k group)) ec) t,
       );
-      refused = λ z. absurd (z refl)
+      refused = λ z. absurd (z refl);
     }

@@ -90,7 +90,10 @@ pub fn ideal(mode: u32, n: u32, sent: &[u8], i: &mut [i16], q: &mut [i16]) -> u3
 fn refused_point(refusal: u32) -> Mapping
     ensures { λ r. ⌜ (r .refusal ≡ refusal) × (r .point .i ≡ plusZero) × (r .point .q ≡ plusZero) ⌝ }
 {
-    Mapping { refusal, point: Point { i: 0.0, q: 0.0 } }
+    Mapping {
+        refusal,
+        point: Point { i: 0.0, q: 0.0 },
+    }
 }
 
 // The point of one group value, its earliest bit the highest.
@@ -108,5 +111,8 @@ pub fn mapped(mode: u32, group: u32) -> Mapping
     if 1 << modes::bits_per_carrier(c) <= group {
         return refused_point(9);
     }
-    Mapping { refusal: 0, point: points::point_of(c, group as usize) }
+    Mapping {
+        refusal: 0,
+        point: points::point_of(c, group as usize),
+    }
 }

@@ -33,12 +33,14 @@ unfolding lengths
 lengths-passed perSymbol N rest h =
     let p3 = ladder-passed 2 _ _ h in
     let p4 = ladder-passed 3 _ _ (p3 .1) in
-    let p5 = ladder-passed 4 _ _ (p4 .1) in
-    (record {
-      inside = within 72 3456 N (p3 .0);
-      octets = eqb-true _ _ (not-false _ (p4 .0));
-      symbols = eqb-true _ _ (not-false _ (p5 .0))
-    }, p5 .1)
+    let p5 = ladder-passed 4 _ _ (p4 .1) in (
+      record {
+        inside = within 72 3456 N (p3 .0);
+        octets = eqb-true _ _ (not-false _ (p4 .0));
+        symbols = eqb-true _ _ (not-false _ (p5 .0));
+      },
+      p5 .1,
+    )
 
 -- the lengths are tested once mode and counter have passed
 described-at-3 : (k counter N a : ℕ) → 1 ≤ k → k ≤ 7 → counter ≤ 15
@@ -67,7 +69,7 @@ fit-of k N m l =
       from-72 = l .inside .0;
       to-3456 = l .inside .1;
       whole-octets = l .octets;
-      whole-symbols = l .symbols
+      whole-symbols = l .symbols;
     }
 
 -- a length that passes is 72 or more
@@ -86,7 +88,7 @@ described-legal k counter N a h =
     record {
       fit = fit-of k N (p1 .0) (p5 .0);
       to-15 = ltb-false 15 counter (p2 .0);
-      inside = omega (arith, ltb-false (N - 72) a (p6 .0))
+      inside = omega (arith, ltb-false (N - 72) a (p6 .0));
     }
 
 pub sized-fit : (k N : ℕ) → ladder (sized k N) ≡ 0 → Fit k N

@@ -40,14 +40,38 @@ pub fn mode_of(number: u32) -> Mode
     ensures { λ r. ⌜ (r .constellation ≡ constellationOf number) × (r .rate ≡ rateOf number) ⌝ }
 {
     match number {
-        1 => Mode { constellation: Constellation::Bpsk, rate: Rate::Half },
-        2 => Mode { constellation: Constellation::Bpsk, rate: Rate::ThreeQuarters },
-        3 => Mode { constellation: Constellation::Qpsk, rate: Rate::Half },
-        4 => Mode { constellation: Constellation::Qpsk, rate: Rate::ThreeQuarters },
-        5 => Mode { constellation: Constellation::Qam16, rate: Rate::NineSixteenths },
-        6 => Mode { constellation: Constellation::Qam16, rate: Rate::ThreeQuarters },
-        7 => Mode { constellation: Constellation::Qam64, rate: Rate::ThreeQuarters },
-        _ => Mode { constellation: Constellation::Qam64, rate: Rate::Half },
+        1 => Mode {
+            constellation: Constellation::Bpsk,
+            rate: Rate::Half,
+        },
+        2 => Mode {
+            constellation: Constellation::Bpsk,
+            rate: Rate::ThreeQuarters,
+        },
+        3 => Mode {
+            constellation: Constellation::Qpsk,
+            rate: Rate::Half,
+        },
+        4 => Mode {
+            constellation: Constellation::Qpsk,
+            rate: Rate::ThreeQuarters,
+        },
+        5 => Mode {
+            constellation: Constellation::Qam16,
+            rate: Rate::NineSixteenths,
+        },
+        6 => Mode {
+            constellation: Constellation::Qam16,
+            rate: Rate::ThreeQuarters,
+        },
+        7 => Mode {
+            constellation: Constellation::Qam64,
+            rate: Rate::ThreeQuarters,
+        },
+        _ => Mode {
+            constellation: Constellation::Qam64,
+            rate: Rate::Half,
+        },
     }
 }
 
@@ -151,5 +175,10 @@ pub fn sized_refusal(mode: u32, n: u32) -> u32
 pub fn train_of(mode: u32, counter: u32, n: u32, a: u32) -> Train
     ensures { λ r. ⌜ Describes mode counter n a r ⌝ }
 {
-    Train { mode: mode_of(mode), counter, n: n as usize, a: a as usize }
+    Train {
+        mode: mode_of(mode),
+        counter,
+        n: n as usize,
+        a: a as usize,
+    }
 }

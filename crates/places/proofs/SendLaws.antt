@@ -37,7 +37,7 @@ by-number k low high =
       within = symbol-place-within k low high;
       back = symbol-place-back k low high;
       back-within = symbol-back-within k low high;
-      forth = symbol-back-place k low high
+      forth = symbol-back-place k low high;
     }
 
 seating : (c : Constellation) → Seating (48 * bitsOf c) (bitsOf c)
@@ -63,11 +63,11 @@ seats c b e = go (48 * b) b (seated-by c b e)
         record {
           within = λ k h. rw (places-at S b k h) (s .within k h);
           apart = λ i k less h same.
-            let e : i ≡ k =
-                sym (s .back i (omega arith))
-                ∙ ap (λ (j : ℕ). getD (seated S b S) j 0) (sym (places-at S b i (omega arith)) ∙ same ∙ places-at S b k h)
-                ∙ s .back k h
-            in omega arith
+              let e : i ≡ k =
+              sym (s .back i (omega arith))
+              ∙ ap (λ (j : ℕ). getD (seated S b S) j 0) (sym (places-at S b i (omega arith)) ∙ same ∙ places-at S b k h)
+              ∙ s .back k h
+              in omega arith;
         }
 
 -- bit j of symbol s, by the interleaver
@@ -114,15 +114,14 @@ module _ (c : Constellation) (b : ℕ) (e : b ≡ bitsOf c) (rate : Rate) (a fir
         counted = rw (before .counted, add-one s) (sym (suc-mul s S));
         long = h .long ∙ before .long;
         bits =
-          scattered-all base S (placesOf S b) _ _ (λ j. getD (seated S b S) j 0) l₀ l′ room
-          (λ j inside.
-            (
+            scattered-all base S (placesOf S b) _ _ (λ j. getD (seated S b S) j 0) l₀ l′ room
+            (λ j inside. (
               seat .back-within j inside,
               places-at S b _ (seat .back-within j inside) ∙ seat .forth j inside,
               rw (before .counted)
-              (ap (λ (q : ℕ). getD coded (origin (P1 a) (first + origin (P2 rate) q)) 0) (interleaver-origin S b s j inside)),
+                  (ap (λ (q : ℕ). getD coded (origin (P1 a) (first + origin (P2 rate) q)) 0) (interleaver-origin S b s j inside)),
             ))
-          (rw (before .bits) at h)
+            (rw (before .bits) at h);
       }
 
   -- and when all are sent

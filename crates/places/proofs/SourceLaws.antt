@@ -24,9 +24,9 @@ pdu-sources c rate a first s N coded share small inside room =
     record {
       punctured = λ q h. let (p, _) = origin-place (P2 rate) (takes-rate rate c s) q h in omega arith;
       present = λ q h.
-        let (p, _) = origin-place (P2 rate) (takes-rate rate c s) q h in
-        let (m, _) = origin-place (P1 a) (takes-P1 a N inside) (first + origin (P2 rate) q) (omega arith) in
-        omega arith
+          let (p, _) = origin-place (P2 rate) (takes-rate rate c s) q h in
+          let (m, _) = origin-place (P1 a) (takes-P1 a N inside) (first + origin (P2 rate) q) (omega arith) in
+          omega arith;
     }
 
 -- a PDU by its two enums is the PDU of that mode's number

@@ -134,7 +134,16 @@ pub fn symbol_places(c: Constellation) -> [u16; 288]
 }
 
 // One symbol, whose bits P2 has put out from `base` on: bit k goes to its place in the symbol.
-fn send_symbol(places: &[u16; 288], size: usize, rate: Rate, a: usize, first: usize, base: usize, coded: &[u8], sent: &mut [u8])
+fn send_symbol(
+    places: &[u16; 288],
+    size: usize,
+    rate: Rate,
+    a: usize,
+    first: usize,
+    base: usize,
+    coded: &[u8],
+    sent: &mut [u8],
+)
     requires { ⌜ (size ≤ 288) × (a ≤ 3456) × (base + size ≤ 6912) × (base + size ≤ length (now sent)) ⌝ }
     requires { ⌜ Seats (now places) size ⌝ }
     requires { ⌜ Sources rate a first (base + size) (length (now coded)) ⌝ }

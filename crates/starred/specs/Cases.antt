@@ -13,7 +13,6 @@ use Rattle.coder.specs.Scrambler.{scrambled}
 use Rattle.coder.specs.Encoder.{tailed, coded}
 
 infix 20 _gives_
-
 -- numbers worked out by the definitions, and the document's numbers
 pub data Case : Type 0 where
   _gives_ : List ℕ → List ℕ → Case

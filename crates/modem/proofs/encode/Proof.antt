@@ -55,15 +55,14 @@ sent-bits-requires : tie.Need-sent-bits-requires
 sent-bits-requires c κs = made (c .before .before) .fit
 
 returns-3 : tie.Need-returns-3
-returns-3 c = 
+returns-3 c =
     let at = c .before .before .before .before in
     encode-8 _ _ _ _ _ _ (zero at) (c .before .before .if2 .left ∙ same-octets at)
     (omega (arith, c .before .sent-bits .ensures ∙ same-n at))
 
 send-requires : tie.Need-send-requires
-send-requires c κs = 
-    let at = c .before .before .before .before .before in
-    (
+send-requires c κs =
+    let at = c .before .before .before .before .before in (
       made at,
       (
         c .before .before .before .if2 .left ∙ (unfold octetsOf in refl),
@@ -75,7 +74,7 @@ same-length : tie.Need-same-length
 same-length c = search needs
 
 returns-4 : tie.Need-returns-4
-returns-4 c = 
+returns-4 c =
     let at = c .before .before .before .before .before .before .before .before in
     let d = at .train-of .ensures in
     encode-done _ _ _ _ _ _ (zero at) _ (c .before .before .before .before .before .before .if2 .left ∙ same-octets at)

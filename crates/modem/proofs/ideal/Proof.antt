@@ -81,23 +81,23 @@ bits-ok-requires : tie.Need-bits-ok-requires
 bits-ok-requires c κs = search needs
 
 returns-5 : tie.Need-returns-5
-returns-5 c = 
+returns-5 c =
     let s = c .before .before .before .before in
     ideal-9 _ _ _ _ _ (zero (s .before .before .before)) (s .before .if2 .left ∙ counted (s .before .before))
     (omega (arith, all-carriers s)) (omega (arith, all-carriers s))
     (sym (c .before .bits-ok .ensures) ∙ not-true _ (c .if5 .taken))
 
 readings-requires : tie.Need-readings-requires
-readings-requires c κs = 
+readings-requires c κs =
     let s = c .before .before .before .before .before .before in
     let m = s .before .before .before in
     let all : bitsOf (constellationOf (entry m .args .mode)) * carriers (entry m .args .mode) (entry m .args .n) ≡ length (entry m .args .sent .now) =
-        carriers-exact _ _ (fit m) ∙ sym (s .before .if2 .left ∙ counted (s .before .before))
+    carriers-exact _ _ (fit m) ∙ sym (s .before .if2 .left ∙ counted (s .before .before))
     in
     record {
       enough = rw (m .mode-of .ensures .0, all-carriers s) (omega (arith, all));
       onI = c .before .before .before .before .before .if3 .left;
-      onQ = c .before .before .before .before .if4 .left
+      onQ = c .before .before .before .before .if4 .left;
     }
 
 same-length : tie.Need-same-length
@@ -107,7 +107,7 @@ same-length-2 : tie.Need-same-length-2
 same-length-2 c = search needs
 
 returns-6 : tie.Need-returns-6
-returns-6 c = 
+returns-6 c =
     let s = c .before .before .before .before .before .before .before .before .before in
     let m = s .before .before .before in
     let made = c .before .before .readings .ensures in

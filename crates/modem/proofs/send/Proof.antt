@@ -30,8 +30,7 @@ send-pdu-requires : tie.Need-send-pdu-requires
 send-pdu-requires c κs =
     let start = c .before .before .before .before .before .before .before .before .before .before in
     let legal = start .pre .0 in
-    let symbols = c .before .before .before .before .before .before .symbols-of .ensures .0 in
-    (
+    let symbols = c .before .before .before .before .before .before .symbols-of .ensures .0 in (
       (omega (arith, legal .inside, legal .fit .to-3456), rw symbols (sent-inside _ _ _ _ _ legal), rw (symbols, sent-by-enums _ _ _ _ _ legal) (start .pre .1 .1)),
       rw symbols (train-sources _ _ _ _ _ legal _ (omega (arith, legal .fit .to-3456, c .before .before .before .code .kept .1 .1 .1 .0, c .before .before .before .before .before .coded-room .ensures))),
     )

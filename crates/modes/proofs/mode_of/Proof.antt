@@ -41,8 +41,8 @@ returns-8 c =
     let k = c .before .args .number in
     let other = c .match .rest in
     rw (row-of-none k (λ low high. by-mode (λ (j : ℕ). k ≡ j → ⊥)
-        (other .0 .0 .0 .0 .0 .0 .1) (other .0 .0 .0 .0 .0 .1) (other .0 .0 .0 .0 .1) (other .0 .0 .0 .1) (other .0 .0 .1) (other .0 .1) (other .1)
-        k low high refl))
+    (other .0 .0 .0 .0 .0 .0 .1) (other .0 .0 .0 .0 .0 .1) (other .0 .0 .0 .0 .1) (other .0 .0 .0 .1) (other .0 .0 .1) (other .0 .1) (other .1)
+    k low high refl))
     (refl, refl)
 
 pub mode-of-spec : {M : Type 1} → statement M

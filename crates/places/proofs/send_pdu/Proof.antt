@@ -47,8 +47,7 @@ send-symbol-requires c κs =
     let e = at .before .bits-per-carrier .ensures .0 in
     let inside = room turn in
     let long = at .loop .inv .1 .long in
-    let start = at .before .before .before .before .before in
-    (
+    let start = at .before .before .before .before .before in (
       (omega arith, omega arith, omega (arith, start .pre .0), omega (arith, start .pre .0)),
       (
         rw (at .before .before .symbol-places .ensures, ← e) (seats (start .args .mode .constellation) _ e),
@@ -70,11 +69,10 @@ loop-again c =
     let turn = c .before .before .before .before .before in
     let at = turn .before in
     let e = at .before .bits-per-carrier .ensures .0 in
-    let start = at .before .before .before .before .before in
-    (
+    let start = at .before .before .before .before .before in (
       omega arith,
       sent-again (start .args .mode .constellation) _ e _ _ _ _ _ _ _ _ _ (omega (arith, room turn, start .pre .0)) (at .loop .inv .1)
-      (rw (at .before .before .symbol-places .ensures, ← e) at (c .before .before .send-symbol .ensures)),
+          (rw (at .before .before .symbol-places .ensures, ← e) at (c .before .before .send-symbol .ensures)),
     )
 
 same-length : tie.Need-same-length Inv-loop μ-loop

@@ -61,12 +61,11 @@ loop-again : tie.Need-loop-again Inv-loop μ-loop
 loop-again c =
     let turn = c .before .before .before .before in
     let inv = turn .before .loop .inv in
-    let start = turn .before .before .before .before in
-    (
+    let start = turn .before .before .before .before in (
       omega arith,
       rw (c .before .wide .ensures)
-      (scattered-again _ _ _ _ _ (start .pre .1 .0) (omega arith) _ _ _ (inv .1) (turn .loop-test .taken)
-      (ap (λ (m : ℕ). getD (start .args .coded .now) m 0) (c .before .before .before .source .ensures))),
+          (scattered-again _ _ _ _ _ (start .pre .1 .0) (omega arith) _ _ _ (inv .1) (turn .loop-test .taken)
+          (ap (λ (m : ℕ). getD (start .args .coded .now) m 0) (c .before .before .before .source .ensures))),
     )
 
 same-length : tie.Need-same-length Inv-loop μ-loop

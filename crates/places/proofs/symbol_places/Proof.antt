@@ -58,11 +58,10 @@ loop-less c = omega arith
 loop-again : tie.Need-loop-again Inv-loop μ-loop
 loop-again c =
     let turn = c .before .before in
-    let inv = turn .before .loop .inv in
-    (
+    let inv = turn .before .loop .inv in (
       omega arith,
       filled-put _ _ _ _ _ (inv .1) (c .second-step .ensures ∙ ap (secondStep _ _) (c .before .first-step .ensures .0))
-      (omega (arith, turn .before .before .no-places .ensures .1)),
+          (omega (arith, turn .before .before .no-places .ensures .1)),
       simp length-set (inv .2),
     )
 
