@@ -16,9 +16,8 @@ use Rattle.modes.specs.Description.{Fit, Legal}
 use Rattle.modes.proofs.ModeLaws.{by-enums}
 use Rattle.modes.proofs.SizeLaws.{symbols-exact, sent-within}
 use Rattle.places.specs.Selection.{origin}
-use Rattle.places.specs.Puncture.{P1}
-use Rattle.places.specs.Sources.{Sources}
-use Rattle.places.specs.Trains.{pdu, pduOf, train}
+use Rattle.places.specs.Sending.{Sources, symbolBits, pduBit, PduRoom}
+use Rattle.places.specs.Trains.{train}
 use Rattle.places.proofs.SelectionLaws.{origin-place}
 use Rattle.places.proofs.SourceLaws.{pdu-sources, pdu-enums}
 use Rattle.places.proofs.TrainLaws.{takes-train}
@@ -27,7 +26,7 @@ use Rattle.modem.specs.Encode.{sentBit}
 
 module _ (c : Constellation) (rate : Rate) (counter N a : ℕ) (legal : Legal (numberOf c rate) counter N a) where
   -- a train's sent bits by its two enums
-  pub sent-by-enums : symbols (numberOf c rate) N * (48 * bitsOf c) ≡ sentBits (numberOf c rate) N
+  pub sent-by-enums : symbolBits c (symbols (numberOf c rate) N) ≡ sentBits (numberOf c rate) N
   unfolding sentBits
   sent-by-enums = ap (λ (n : ℕ). symbols (numberOf c rate) N * n) (sym (by-enums c rate (legal .fit .from-1) (legal .fit .to-7) .1))
 
@@ -35,20 +34,25 @@ module _ (c : Constellation) (rate : Rate) (counter N a : ℕ) (legal : Legal (n
   unfolding octetsOf
   train-octets octets e = omega (arith, legal .fit .whole-octets)
 
-  pub sent-inside : symbols (numberOf c rate) N * (48 * bitsOf c) ≤ 6912
-  sent-inside = rw sent-by-enums (omega (arith, sent-within (numberOf c rate) N (legal .fit), legal .fit .to-3456))
-
-  pub train-sources : (coded : ℕ) → 2 * (N + 6) ≤ coded → Sources rate a 0 (symbols (numberOf c rate) N * (48 * bitsOf c)) coded
-  train-sources coded room =
-      let i = by-enums c rate (legal .fit .from-1) (legal .fit .to-7) .2 in
-      let exact : symbols (numberOf c rate) N * infoOf c rate ≡ N = rw (← i) (symbols-exact (numberOf c rate) N (legal .fit)) in
-      pdu-sources c rate a 0 (symbols (numberOf c rate) N) N coded (omega arith) (legal .fit .to-3456) (legal .inside) room
+  -- there is room for the train's one PDU
+  pub train-room : (coded sent : ℕ) → 2 * (N + 6) ≤ coded → sentBits (numberOf c rate) N ≤ sent
+      → PduRoom c rate (symbols (numberOf c rate) N) a 0 coded sent
+  train-room coded sent room enough =
+      let fit = legal .fit in
+      let i = by-enums c rate (fit .from-1) (fit .to-7) .2 in
+      let exact : symbols (numberOf c rate) N * infoOf c rate ≡ N = rw (← i) (symbols-exact (numberOf c rate) N fit) in
+      record {
+        place = omega (arith, legal .inside, fit .to-3456);
+        few = rw sent-by-enums (omega (arith, sent-within (numberOf c rate) N fit, fit .to-3456));
+        room = rw sent-by-enums enough;
+        sources = pdu-sources c rate a 0 (symbols (numberOf c rate) N) N coded (omega arith) (fit .to-3456) (legal .inside) room
+      }
 
   -- a sent bit, read from the coded bits
   read : (octets coded room : List ℕ) → coded ≡ filled (2 * (N + 6)) (codedBit counter N octets) room
       → (q : ℕ) → q < sentBits (numberOf c rate) N
-      → getD coded (origin (P1 a) (0 + origin (pduOf c rate) q)) 0 ≡ codedBit counter N octets (origin (train (numberOf c rate) a) q)
-  unfolding train origin
+      → pduBit c rate a 0 coded q ≡ codedBit counter N octets (origin (train (numberOf c rate) a) q)
+  unfolding pduBit train origin
   read octets coded room e q h =
       let fit = legal .fit in
       let takes = takes-train (numberOf c rate) N a (fit .from-1) (fit .to-7) (fit .whole-symbols) (legal .inside) in
@@ -58,7 +62,7 @@ module _ (c : Constellation) (rate : Rate) (counter N a : ℕ) (legal : Legal (n
   -- the buffer that holds a PDU's sent bits, read from the coded bits, holds the train's
   pub train-sent : (octets coded room sent sent′ : List ℕ)
       → coded ≡ filled (2 * (N + 6)) (codedBit counter N octets) room
-      → sent′ ≡ filled (symbols (numberOf c rate) N * (48 * bitsOf c)) (λ q. getD coded (origin (P1 a) (0 + origin (pduOf c rate) q)) 0) sent
+      → sent′ ≡ filled (symbolBits c (symbols (numberOf c rate) N)) (pduBit c rate a 0 coded) sent
       → sent′ ≡ filled (sentBits (numberOf c rate) N) (sentBit (numberOf c rate) counter N a octets) sent
   unfolding sentBit
   train-sent octets coded room sent sent′ ec es = es ∙ rw sent-by-enums (filled-same _ _ _ sent (read octets coded room ec))

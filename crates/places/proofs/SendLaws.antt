@@ -1,6 +1,6 @@
 -- One turn of sending a PDU: a symbol's bits at their places make the sent bits of one more symbol.
 -- Assumes nothing.
-use mathlib.Core.Path.{_≡_, refl, sym, _∙_, ap, subst}
+use mathlib.Core.Path.{_≡_, refl, sym, _∙_, ap, ap₂, subst}
 use mathlib.Core.List.{List}
 use Prim.Native.Nat.{ℕ, _+_, _*_, _≤_, _<_}
 use native.Mathlib.Nat.{mul-comm, zero-mul, suc-mul, mul-le-mul-right, le-trans}
@@ -21,7 +21,7 @@ use Rattle.places.specs.Selection.{origin, after}
 use Rattle.places.specs.Puncture.{P1, P2}
 use Rattle.places.specs.Interleaver.{placeInSymbol, noPlaces, placesOf, seated, interleaver}
 use Rattle.places.specs.Trains.{pduOf}
-use Rattle.places.specs.Sources.{sourceOf, Sources}
+use Rattle.places.specs.Sending.{sourceOf, Sources, symbolBits, pduBit}
 use Rattle.places.proofs.SymbolLaws.{seated-length, symbol-place-within, symbol-place-back, symbol-back-within, symbol-back-place}
 
 -- a symbol of S bits: places and bits take each other back
@@ -126,6 +126,8 @@ module _ (c : Constellation) (b : ℕ) (e : b ≡ bitsOf c) (rate : Rate) (a fir
 
   -- and when all are sent
   pub sent-done : (l : List ℕ) (s symbols base : ℕ) → s ≡ symbols → Sent b rate a first coded l₀ l s base
-      → l ≡ filled (symbols * (48 * bitsOf c)) (λ q. getD coded (origin (P1 a) (first + origin (pduOf c rate) q)) 0) l₀
-  unfolding sentAt pduOf
-  sent-done l s symbols base all h = rw (← e, ← all, ← h .counted) (h .bits)
+      → l ≡ filled (symbolBits c symbols) (pduBit c rate a first coded) l₀
+  unfolding sentAt pduBit pduOf
+  sent-done l s symbols base all h =
+      h .bits
+      ∙ ap₂ (λ (n d : ℕ). filled n (sentAt d rate a first coded) l₀) (h .counted ∙ ap₂ (λ (m d : ℕ). m * (48 * d)) all e) e

@@ -10,7 +10,7 @@ use Rattle.modes.proofs.ModeLaws.{enums-back, by-enums}
 use Rattle.places.specs.Selection.{origin, after}
 use Rattle.places.specs.Puncture.{P1, P2}
 use Rattle.places.specs.Interleaver.{interleaver}
-use Rattle.places.specs.Sources.{sourceOf, Sources}
+use Rattle.places.specs.Sending.{sourceOf, Sources}
 use Rattle.places.specs.Trains.{pdu, pduOf}
 use Rattle.places.proofs.SelectionLaws.{origin-place}
 use Rattle.places.proofs.TrainLaws.{takes-P1, takes-rate}

@@ -2,4 +2,4 @@ pub mod Selection
 pub mod Puncture
 pub mod Interleaver
 pub mod Trains
-pub mod Sources
+pub mod Sending

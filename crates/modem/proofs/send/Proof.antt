@@ -3,7 +3,7 @@
 use mathlib.Core.Path.{_≡_, refl, sym, _∙_, ap}
 use native.Mathlib.Omega.{arith}
 use lib.ListN.{length}
-use Rattle.modem.proofs.SendLaws.{sent-by-enums, train-octets, sent-inside, train-sources, train-sent}
+use Rattle.modem.proofs.SendLaws.{train-octets, train-room, train-sent}
 use borrow.Author.Needs.{needs}
 use Rattle.modem.proofs.send.Statement.{statement}
 use Rattle.modem.proofs.send.Tie as tie
@@ -30,10 +30,9 @@ send-pdu-requires : tie.Need-send-pdu-requires
 send-pdu-requires c κs =
     let start = c .before .before .before .before .before .before .before .before .before .before in
     let legal = start .pre .0 in
-    let symbols = c .before .before .before .before .before .before .symbols-of .ensures .0 in (
-      (omega (arith, legal .inside, legal .fit .to-3456), rw symbols (sent-inside _ _ _ _ _ legal), rw (symbols, sent-by-enums _ _ _ _ _ legal) (start .pre .1 .1)),
-      rw symbols (train-sources _ _ _ _ _ legal _ (omega (arith, legal .fit .to-3456, c .before .before .before .code .kept .1 .1 .1 .0, c .before .before .before .before .before .coded-room .ensures))),
-    )
+    let coded = c .before .before .before .before .before .coded-room .ensures in
+    let long = c .before .before .before .code .kept .1 .1 .1 .0 in
+    rw (c .before .before .before .before .before .before .symbols-of .ensures .0) (train-room _ _ _ _ _ legal _ _ (omega (arith, legal .fit .to-3456, long, coded)) (start .pre .1 .1))
 
 same-length : tie.Need-same-length
 same-length c = search needs

@@ -48,10 +48,10 @@ send-symbol-requires c κs =
     let inside = room turn in
     let long = at .loop .inv .1 .long in
     let start = at .before .before .before .before .before in (
-      (omega arith, omega arith, omega (arith, start .pre .0), omega (arith, start .pre .0)),
+      (omega arith, start .pre .place, omega (arith, start .pre .few), omega (arith, start .pre .room)),
       (
         rw (at .before .before .symbol-places .ensures, ← e) (seats (start .args .mode .constellation) _ e),
-        sources-fewer _ _ _ _ _ _ inside (start .pre .1),
+        sources-fewer _ _ _ _ _ _ inside (start .pre .sources),
       ),
     )
 
@@ -71,7 +71,7 @@ loop-again c =
     let e = at .before .bits-per-carrier .ensures .0 in
     let start = at .before .before .before .before .before in (
       omega arith,
-      sent-again (start .args .mode .constellation) _ e _ _ _ _ _ _ _ _ _ (omega (arith, room turn, start .pre .0)) (at .loop .inv .1)
+      sent-again (start .args .mode .constellation) _ e _ _ _ _ _ _ _ _ _ (omega (arith, room turn, start .pre .room)) (at .loop .inv .1)
           (rw (at .before .before .symbol-places .ensures, ← e) at (c .before .before .send-symbol .ensures)),
     )
 

@@ -7,7 +7,7 @@ use borrow.Author.Needs.{needs}
 use lib.ListN.{length, getD}
 use Rattle.laws.specs.Scatter.{Seats, Scattered}
 use Rattle.laws.proofs.ScatterLaws.{scattered-none, scattered-again}
-use Rattle.places.specs.Sources.{sourceOf, Sources}
+use Rattle.places.specs.Sending.{sourceOf, Sources}
 use Rattle.places.proofs.send_symbol.Statement.{statement}
 use Rattle.places.proofs.send_symbol.Tie as tie
 

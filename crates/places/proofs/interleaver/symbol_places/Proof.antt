@@ -1,4 +1,4 @@
--- `places::symbol_places` works out a symbol's places in order.
+-- `places::interleaver::symbol_places` works out a symbol's places in order.
 -- Assumes nothing.
 use mathlib.Core.Path.{_≡_, refl, sym, _∙_, ap}
 use Prim.Native.Nat.{_-_, _≤_}
@@ -9,8 +9,8 @@ use Rattle.laws.specs.Lists.{filled}
 use Rattle.laws.proofs.ListLaws.{filled-none, filled-put}
 use Rattle.places.specs.Interleaver.{firstStep, secondStep}
 use Rattle.places.proofs.StepLaws.{table-done}
-use Rattle.places.proofs.symbol_places.Statement.{statement}
-use Rattle.places.proofs.symbol_places.Tie as tie
+use Rattle.places.proofs.interleaver.symbol_places.Statement.{statement}
+use Rattle.places.proofs.interleaver.symbol_places.Tie as tie
 
 abbrev Inv-loop : tie.InvT-loop
 Inv-loop b size unit places₀ k₀ places k =

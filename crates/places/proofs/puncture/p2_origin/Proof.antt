@@ -1,12 +1,12 @@
--- `places::p2_origin` is P2, rate by rate.
+-- `places::puncture::p2_origin` is P2, rate by rate.
 -- Assumes nothing.
 use mathlib.Core.Path.{_≡_, refl, sym, _∙_, ap}
 use native.Mathlib.Omega.{arith}
 use Rattle.places.specs.Selection.{origin}
 use Rattle.places.specs.Puncture.{P2, p2Kept34, p2Kept916}
 use borrow.Author.Needs.{needs}
-use Rattle.places.proofs.p2_origin.Statement.{statement}
-use Rattle.places.proofs.p2_origin.Tie as tie
+use Rattle.places.proofs.puncture.p2_origin.Statement.{statement}
+use Rattle.places.proofs.puncture.p2_origin.Tie as tie
 
 enum-told : tie.Need-enum-told
 enum-told c = search needs

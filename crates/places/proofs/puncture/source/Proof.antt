@@ -1,10 +1,10 @@
--- `places::source` goes back through P2 and then P1.
+-- `places::puncture::source` goes back through P2 and then P1.
 -- Assumes nothing.
 use mathlib.Core.Path.{refl, sym, _∙_, ap}
-use Rattle.places.specs.Sources.{sourceOf}
+use Rattle.places.specs.Sending.{sourceOf}
 use borrow.Author.Needs.{needs}
-use Rattle.places.proofs.source.Statement.{statement}
-use Rattle.places.proofs.source.Tie as tie
+use Rattle.places.proofs.puncture.source.Statement.{statement}
+use Rattle.places.proofs.puncture.source.Tie as tie
 
 p2-origin-requires : tie.Need-p2-origin-requires
 p2-origin-requires c κs = search needs

@@ -1,4 +1,4 @@
--- `places::second_step` is the second step of clause 5.4.
+-- `places::interleaver::second_step` is the second step of clause 5.4.
 -- Assumes nothing.
 use mathlib.Core.Path.{refl}
 use Prim.Native.Nat.{_+_, _-_, _*_, _/_}
@@ -6,8 +6,8 @@ use native.Mathlib.Omega.{arith}
 use Rattle.places.specs.Interleaver.{secondStep}
 use Rattle.places.proofs.StepLaws.{row-within, rest-within, unit-within}
 use borrow.Author.Needs.{needs}
-use Rattle.places.proofs.second_step.Statement.{statement}
-use Rattle.places.proofs.second_step.Tie as tie
+use Rattle.places.proofs.interleaver.second_step.Statement.{statement}
+use Rattle.places.proofs.interleaver.second_step.Tie as tie
 
 div-result : tie.Need-div-result
 div-result c = search needs

@@ -1,9 +1,9 @@
--- `places::no_places` is a table of zeros.
+-- `places::interleaver::no_places` is a table of zeros.
 -- Assumes nothing.
 use mathlib.Core.Path.{refl}
 use Rattle.places.specs.Interleaver.{noPlaces}
-use Rattle.places.proofs.no_places.Statement.{statement}
-use Rattle.places.proofs.no_places.Tie as tie
+use Rattle.places.proofs.interleaver.no_places.Statement.{statement}
+use Rattle.places.proofs.interleaver.no_places.Tie as tie
 
 returns : tie.Need-returns
 unfolding noPlaces

@@ -1,9 +1,9 @@
--- `places::unit_of` is the greater of 1 and half the bits per carrier.
+-- `places::interleaver::unit_of` is the greater of 1 and half the bits per carrier.
 -- Assumes nothing.
 use native.Mathlib.Omega.{arith}
 use Rattle.places.specs.Interleaver.{unit}
-use Rattle.places.proofs.unit_of.Statement.{statement}
-use Rattle.places.proofs.unit_of.Tie as tie
+use Rattle.places.proofs.interleaver.unit_of.Statement.{statement}
+use Rattle.places.proofs.interleaver.unit_of.Tie as tie
 
 returns : tie.Need-returns
 unfolding unit

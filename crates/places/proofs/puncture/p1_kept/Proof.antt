@@ -1,12 +1,12 @@
--- `places::p1_kept` is table 2.
+-- `places::puncture::p1_kept` is table 2.
 -- Assumes nothing.
 use mathlib.Core.Path.{_≡_, refl, sym, _∙_, ap}
 use native.Mathlib.Omega.{arith}
 use borrow.Author.Tests.{lt-ltb, le-ltb, eq-eqb, ne-eqb}
 use Rattle.places.proofs.OriginLaws.{p1-kept}
 use borrow.Author.Needs.{needs}
-use Rattle.places.proofs.p1_kept.Statement.{statement}
-use Rattle.places.proofs.p1_kept.Tie as tie
+use Rattle.places.proofs.puncture.p1_kept.Statement.{statement}
+use Rattle.places.proofs.puncture.p1_kept.Tie as tie
 
 returns : tie.Need-returns
 returns c = (rw (p1-kept _ (c .before .pre), lt-ltb _ _ (c .if1 .taken)) refl, omega arith)

@@ -1,12 +1,12 @@
--- `places::p2_kept_9_16` is table 3 at rate 9/16.
+-- `places::puncture::p2_kept_9_16` is table 3 at rate 9/16.
 -- Assumes nothing.
 use mathlib.Core.Path.{_≡_, refl, sym, _∙_, ap}
 use native.Mathlib.Omega.{arith}
 use borrow.Author.Tests.{lt-ltb, le-ltb, eq-eqb, ne-eqb}
 use Rattle.places.proofs.OriginLaws.{p2-kept-9-16}
 use borrow.Author.Needs.{needs}
-use Rattle.places.proofs.p2_kept_9_16.Statement.{statement}
-use Rattle.places.proofs.p2_kept_9_16.Tie as tie
+use Rattle.places.proofs.puncture.p2_kept_9_16.Statement.{statement}
+use Rattle.places.proofs.puncture.p2_kept_9_16.Tie as tie
 
 returns : tie.Need-returns
 returns c = (rw (p2-kept-9-16 _ (c .before .pre), lt-ltb _ _ (c .if1 .taken)) refl, omega arith)

@@ -1,12 +1,12 @@
--- `places::p1_origin` is P1, by its three parts.
+-- `places::puncture::p1_origin` is P1, by its three parts.
 -- Assumes nothing.
 use mathlib.Core.Path.{_≡_, refl, sym, _∙_, ap}
 use native.Mathlib.Omega.{arith}
 use borrow.Author.Tests.{lt-ltb, le-ltb, eq-eqb, ne-eqb}
 use Rattle.places.proofs.OriginLaws.{p1-before, p1-inside, p1-behind}
 use borrow.Author.Needs.{needs}
-use Rattle.places.proofs.p1_origin.Statement.{statement}
-use Rattle.places.proofs.p1_origin.Tie as tie
+use Rattle.places.proofs.puncture.p1_origin.Statement.{statement}
+use Rattle.places.proofs.puncture.p1_origin.Tie as tie
 
 mul-if1 : tie.Need-mul-if1
 mul-if1 c = search needs

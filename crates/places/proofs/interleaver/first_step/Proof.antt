@@ -1,11 +1,11 @@
--- `places::first_step` is the first step of clause 5.4.
+-- `places::interleaver::first_step` is the first step of clause 5.4.
 -- Assumes nothing.
 use mathlib.Core.Path.{refl}
 use native.Mathlib.Omega.{arith}
 use Rattle.places.specs.Interleaver.{firstStep}
 use Rattle.places.proofs.StepLaws.{first-within}
-use Rattle.places.proofs.first_step.Statement.{statement}
-use Rattle.places.proofs.first_step.Tie as tie
+use Rattle.places.proofs.interleaver.first_step.Statement.{statement}
+use Rattle.places.proofs.interleaver.first_step.Tie as tie
 
 mul-result : tie.Need-mul-result
 mul-result c = omega (arith, first-within (c .args .size) (c .args .k) (omega arith))
