@@ -2,14 +2,14 @@
 -- Assumes nothing.
 use mathlib.Core.Path.{_≡_, refl, sym, _∙_, ap}
 use mathlib.Core.List.{List}
-use Prim.Native.Nat.{ℕ, zero, suc, _+_, _*_, _%_, _≤_, _<_}
+use Prim.Native.Nat.{ℕ, suc, _+_, _*_, _%_, _≤_, _<_}
 use native.Mathlib.Numerals.{add-one}
 use native.Mathlib.Omega.{arith}
 use lib.Dec.{ltb}
 use lib.ListN.{length, getD, set, length-set}
 use Rattle.laws.specs.Lists.{choose, filled}
-use Rattle.laws.proofs.ListLaws.{filled-none, filled-length, filled-pair}
-use Rattle.coder.specs.Scrambler.{bitOf, start, output, shifted, state, scrambledBit, scrambled}
+use Rattle.laws.proofs.ListLaws.{filled-none, filled-pair}
+use Rattle.coder.specs.Scrambler.{bitOf, output, shifted, state, scrambledBit, scrambled}
 use Rattle.coder.specs.Encoder.{tailed}
 use Rattle.coder.specs.Register.{entered, register, parity, maskX, maskY}
 use Rattle.coder.specs.Train.{codedBit}

@@ -1,19 +1,18 @@
 -- The encoder by lags is the register under its two masks.
 -- Assumes nothing.
-use mathlib.Core.Path.{_≡_, refl, sym, _∙_, ap}
+use mathlib.Core.Path.{_≡_, sym}
 use mathlib.Core.Bool.{Bool, true, false}
 use mathlib.Core.List.{List, [], _∷_}
 use Prim.Native.Nat.{ℕ, zero, suc, _+_, _-_, _*_, _/_, _%_, _<_}
-use native.Mathlib.Nat.{sub-zero, suc-sub-suc, not-suc-le-zero}
+use native.Mathlib.Nat.{sub-zero, suc-sub-suc}
 use native.Mathlib.Omega.{arith}
 use lib.Dec.{T, leb, eqb, leb·zero, leb·suc-zero, leb·suc-suc, eqb→eq}
 use lib.ListN.{length, getD}
-use lib.Bits.{bitAnd}
 use lib.Count.{ones, onesIn}
 use Rattle.laws.specs.Lists.{choose}
 use Rattle.laws.proofs.Tables.{both, both-left, both-right}
 use Rattle.coder.specs.Encoder.{lag, lagsX, lagsY, tapped, coded}
-use Rattle.coder.specs.Register.{entered, register, parity, maskX, maskY}
+use Rattle.coder.specs.Register.{register, parity, maskX, maskY}
 
 -- every input is a bit
 abbrev pub Bits : List ℕ → Type 0

@@ -1,11 +1,10 @@
 -- `mapped` test by test: which answer each test gives, and the point with it.
 -- Assumes nothing.
 use mathlib.Core.Path.{_≡_, refl, sym, _∙_, ap}
-use mathlib.Core.List.{[], _∷_}
 use Prim.Native.Nat.{ℕ, _*_, _%_, _^_, _≤_, _<_}
 use lib.Ieee.{Float}
 use borrow.Author.Tests.{lt-ltb, le-ltb, le-leb, lt-leb}
-use Rattle.laws.specs.Ladder.{_when_, ladder}
+use Rattle.laws.specs.Ladder.{ladder}
 use Rattle.modes.specs.declared.Constellation.{Constellation}
 use Rattle.modes.specs.declared.Constellation.the-variants.{Bpsk, Qpsk, Qam16, Qam64}
 use Rattle.modes.specs.Modes.{constellationOf, bits, bitsOf}

@@ -1,22 +1,22 @@
 -- What sending a train rests on: there is room for its coded bits, and each sent bit has its coded bit.
 -- Assumes nothing.
-use mathlib.Core.Path.{_≡_, refl, sym, _∙_, ap}
+use mathlib.Core.Path.{_≡_, sym, _∙_, ap}
 use mathlib.Core.List.{List}
 use Prim.Native.Nat.{ℕ, _+_, _*_, _≤_, _<_}
 use native.Mathlib.Nat.{zero-add}
 use native.Mathlib.Omega.{arith}
-use lib.ListN.{length, getD}
+use lib.ListN.{length}
 use Rattle.laws.specs.Lists.{filled}
 use Rattle.laws.proofs.ListLaws.{filled-at, filled-same}
 use Rattle.modes.specs.declared.Constellation.{Constellation}
 use Rattle.modes.specs.declared.Rate.{Rate}
-use Rattle.modes.specs.Modes.{bitsOf, infoOf, numberOf}
+use Rattle.modes.specs.Modes.{infoOf, numberOf}
 use Rattle.modes.specs.Sizes.{symbols, sentBits, octetsOf}
-use Rattle.modes.specs.Description.{Fit, Legal}
+use Rattle.modes.specs.Description.{Legal}
 use Rattle.modes.proofs.ModeLaws.{by-enums}
 use Rattle.modes.proofs.SizeLaws.{symbols-exact, sent-within}
 use Rattle.places.specs.Selection.{origin}
-use Rattle.places.specs.Sending.{Sources, symbolBits, pduBit, PduRoom}
+use Rattle.places.specs.Sending.{symbolBits, pduBit, PduRoom}
 use Rattle.places.specs.Trains.{train}
 use Rattle.places.proofs.SelectionLaws.{origin-place}
 use Rattle.places.proofs.SourceLaws.{pdu-sources, pdu-enums}
@@ -45,7 +45,7 @@ module _ (c : Constellation) (rate : Rate) (counter N a : ℕ) (legal : Legal (n
         place = omega (arith, legal .inside, fit .to-3456);
         few = rw sent-by-enums (omega (arith, sent-within (numberOf c rate) N fit, fit .to-3456));
         room = rw sent-by-enums enough;
-        sources = pdu-sources c rate a 0 (symbols (numberOf c rate) N) N coded (omega arith) (fit .to-3456) (legal .inside) room
+        sources = pdu-sources c rate a 0 (symbols (numberOf c rate) N) N coded (omega arith) (fit .to-3456) (legal .inside) room;
       }
 
   -- a sent bit, read from the coded bits

@@ -1,10 +1,10 @@
 -- A description made of legal numbers has those numbers.
 -- Assumes nothing.
-use mathlib.Core.Path.{_≡_, refl, sym, _∙_, ap₂}
+use mathlib.Core.Path.{_≡_, _∙_, ap₂}
 use Prim.Native.Nat.{ℕ}
 use Rattle.modes.specs.declared.Train.{Train}
 use Rattle.modes.specs.Modes.{number, numberOf}
-use Rattle.modes.specs.Description.{Fit, Legal, Describes}
+use Rattle.modes.specs.Description.{Legal, Describes}
 use Rattle.modes.proofs.ModeLaws.{number-back}
 
 module _ (mode counter N a : ℕ) (t : Train) (legal : Legal mode counter N a) (d : Describes mode counter N a t) where

@@ -1,13 +1,15 @@
 // The modes of document 01 (000, table 1), the description of a train, its sizes, and the refusals 1 to 6.
 // The numbers of a call are tested here, in the table's order; what has passed is a Train, whose mode is two enums.
 // Lengths of slices, and what stands in them, are tested by the calls.
+mod refusals;
+
+pub use refusals::refusal;
+pub use refusals::sized_refusal;
 ghost use mathlib.Core.Path.{_≡_};
-ghost use Prim.Native.Nat.{_*_, _<_, _≤_, _/_};
-ghost use Rattle.laws.specs.Ladder.{ladder};
-ghost use Rattle.modes.specs.Modes.{constellationOf, rateOf, bitsOf, info, infoOf, number};
+ghost use Prim.Native.Nat.{_*_, _≤_, _/_};
+ghost use Rattle.modes.specs.Modes.{constellationOf, rateOf, bitsOf, infoOf, number};
 ghost use Rattle.modes.specs.Sizes.{symbols, sentBits};
 ghost use Rattle.modes.specs.Description.{Fit, Describes};
-ghost use Rattle.modes.specs.Refusals.{lengths, sized, described};
 
 pub enum Constellation {
     Bpsk,
@@ -115,60 +117,6 @@ pub fn sent_bits(m: Mode, n: usize) -> usize
     let c = m.constellation;
     let per_symbol = 48 * bits_per_carrier(c);
     symbols_of(m, n) * (per_symbol as usize)
-}
-
-fn info_of(mode: u32) -> u32
-    requires { ⌜ (1 ≤ mode) × (mode ≤ 7) ⌝ }
-    ensures { λ r. ⌜ (r ≡ info mode) × (0 < r) ⌝ }
-{
-    info_per_symbol(mode_of(mode))
-}
-
-// Refusals 3, 4 and 5: what a length is tested for.
-fn length_refusal(info: u32, n: u32) -> u32
-    requires { ⌜ 0 < info ⌝ }
-    ensures { λ r. ⌜ r ≡ ladder (lengths info n) ⌝ }
-{
-    if n < 72 {
-        return 3;
-    }
-    if 3456 < n {
-        return 3;
-    }
-    if n % 8 != 0 {
-        return 4;
-    }
-    if n % info != 0 {
-        return 5;
-    }
-    0
-}
-
-// Refusals 1 to 6: what a whole description is tested for.
-pub fn refusal(mode: u32, counter: u32, n: u32, a: u32) -> u32
-    ensures { λ r. ⌜ r ≡ ladder (described mode counter n a) ⌝ }
-{
-    if mode < 1 {
-        return 1;
-    }
-    if 7 < mode {
-        return 1;
-    }
-    if 15 < counter {
-        return 2;
-    }
-    let r = length_refusal(info_of(mode), n);
-    if r != 0 {
-        return r;
-    }
-    if n - 72 < a { 6 } else { 0 }
-}
-
-// Refusals 1, 3, 4 and 5: a call that has no counter and no a. With 0 for these, their tests refuse nothing.
-pub fn sized_refusal(mode: u32, n: u32) -> u32
-    ensures { λ r. ⌜ r ≡ ladder (sized mode n) ⌝ }
-{
-    refusal(mode, 0, n, 0)
 }
 
 // The description of numbers that were not refused.

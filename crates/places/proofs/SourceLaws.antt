@@ -1,15 +1,14 @@
 -- Each sent bit of a PDU has its coded bit: what the code that sends a PDU is to be lent.
 -- Assumes nothing.
-use mathlib.Core.Path.{_≡_, refl, ap₂}
-use Prim.Native.Nat.{ℕ, _+_, _*_, _≤_, _<_}
+use mathlib.Core.Path.{_≡_, refl}
+use Prim.Native.Nat.{ℕ, _+_, _*_, _≤_}
 use native.Mathlib.Omega.{arith}
 use Rattle.modes.specs.declared.Constellation.{Constellation}
 use Rattle.modes.specs.declared.Rate.{Rate}
 use Rattle.modes.specs.Modes.{bitsOf, infoOf, numberOf}
 use Rattle.modes.proofs.ModeLaws.{enums-back, by-enums}
-use Rattle.places.specs.Selection.{origin, after}
+use Rattle.places.specs.Selection.{origin}
 use Rattle.places.specs.Puncture.{P1, P2}
-use Rattle.places.specs.Interleaver.{interleaver}
 use Rattle.places.specs.Sending.{sourceOf, Sources}
 use Rattle.places.specs.Trains.{pdu, pduOf}
 use Rattle.places.proofs.SelectionLaws.{origin-place}

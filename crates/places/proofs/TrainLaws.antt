@@ -11,7 +11,7 @@ use borrow.Author.Tests.{lt-ltb}
 use Rattle.modes.specs.declared.Constellation.{Constellation}
 use Rattle.modes.specs.declared.Rate.{Rate}
 use Rattle.modes.specs.declared.Rate.the-variants.{Half, NineSixteenths, ThreeQuarters}
-use Rattle.modes.specs.Modes.{constellationOf, bitsOf, infoOf, rowOf, table1, noMode, rateOf, rateIn, bits, sent, sentIn, info, infoIn}
+use Rattle.modes.specs.Modes.{constellationOf, bitsOf, infoOf, rowOf, table1, noMode, rateOf, bits, sent, sentIn, info}
 use Rattle.modes.specs.Sizes.{symbols, sentBits}
 use Rattle.modes.proofs.ModeLaws.{by-mode, columns}
 use Rattle.places.specs.Selection.{Place, At, Dropped, onwards, place, origin, find, later}

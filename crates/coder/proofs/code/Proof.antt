@@ -2,8 +2,6 @@
 -- Assumes nothing.
 use Prim.Native.Nat.{_+_, _-_}
 use native.Mathlib.Omega.{arith}
-use borrow.Author.Needs.{needs}
-use lib.ListN.{length, length-set}
 use Rattle.coder.proofs.CodeLaws.{Coding, coding-start, coding-again, coding-done}
 use Rattle.coder.proofs.code.Statement.{statement}
 use Rattle.coder.proofs.code.Tie as tie

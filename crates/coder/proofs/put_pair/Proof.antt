@@ -1,7 +1,6 @@
 -- `coder::put_pair` stores X and Y.
 -- Assumes nothing.
 use mathlib.Core.Path.{refl}
-use native.Mathlib.Omega.{arith}
 use borrow.Author.Needs.{needs}
 use Rattle.coder.proofs.put_pair.Statement.{statement}
 use Rattle.coder.proofs.put_pair.Tie as tie

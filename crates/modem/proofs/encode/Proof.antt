@@ -10,7 +10,6 @@ use Rattle.modes.specs.Refusals.{described}
 use Rattle.modes.specs.Description.{Legal}
 use Rattle.modes.proofs.RefusalLaws.{described-legal}
 use Rattle.modes.proofs.DescriptionLaws.{number-is, train-legal}
-use Rattle.modem.specs.Encode.{sentBit}
 use Rattle.modem.proofs.EncodeLaws.{same-sent, encode-1-to-6, encode-7, encode-8, encode-done}
 use borrow.Author.Needs.{needs}
 use Rattle.modem.proofs.encode.Statement.{statement}

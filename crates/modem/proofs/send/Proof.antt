@@ -1,8 +1,6 @@
 -- `modem::send`: the coded bits, and then the sent bits from them.
 -- Assumes nothing.
-use mathlib.Core.Path.{_≡_, refl, sym, _∙_, ap}
 use native.Mathlib.Omega.{arith}
-use lib.ListN.{length}
 use Rattle.modem.proofs.SendLaws.{train-octets, train-room, train-sent}
 use borrow.Author.Needs.{needs}
 use Rattle.modem.proofs.send.Statement.{statement}

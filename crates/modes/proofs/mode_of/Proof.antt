@@ -1,6 +1,6 @@
 -- `modes::mode_of` gives table 1's constellation and rate.
 -- Assumes nothing.
-use mathlib.Core.Path.{_≡_, refl, sym}
+use mathlib.Core.Path.{_≡_, refl}
 use Prim.Native.Nat.{ℕ}
 use Rattle.modes.specs.Modes.{constellationOf, rateOf, constellationIn, rateIn, rowOf, table1, noMode}
 use Rattle.modes.proofs.ModeLaws.{by-mode, row-of-none}

@@ -1,8 +1,7 @@
 -- `modes::symbols_of` is N over the information bits per symbol.
 -- Assumes nothing.
-use mathlib.Core.Path.{_≡_, refl, sym, _∙_, ap}
+use mathlib.Core.Path.{sym, _∙_, ap}
 use Prim.Native.Nat.{ℕ, _/_}
-use native.Mathlib.Omega.{arith}
 use Rattle.modes.specs.Sizes.{symbols}
 use Rattle.modes.proofs.ModeLaws.{by-enums}
 use Rattle.modes.proofs.SizeLaws.{symbols-within}

@@ -1,10 +1,8 @@
 -- `places::send_pdu` sends a PDU symbol by symbol.
 -- Assumes nothing.
-use mathlib.Core.Path.{_≡_, refl, sym, _∙_, ap}
-use Prim.Native.Nat.{ℕ, _+_, _*_, _-_, _≤_, _<_}
+use Prim.Native.Nat.{_+_, _*_, _-_, _≤_}
 use native.Mathlib.Omega.{arith}
 use borrow.Author.Needs.{needs}
-use lib.ListN.{length, getD}
 use Rattle.modes.specs.Modes.{bitsOf}
 use Rattle.places.proofs.SendLaws.{seats, symbol-inside, sources-fewer, Sent, sent-none, sent-again, sent-done}
 use Rattle.places.proofs.send_pdu.Statement.{statement}

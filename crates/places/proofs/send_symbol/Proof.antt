@@ -1,13 +1,13 @@
 -- `places::send_symbol` puts each bit of a symbol at its place.
 -- Assumes nothing.
-use mathlib.Core.Path.{_≡_, refl, sym, _∙_, ap}
+use mathlib.Core.Path.{_≡_, ap}
 use Prim.Native.Nat.{ℕ, _+_, _-_, _≤_, _<_}
 use native.Mathlib.Omega.{arith}
 use borrow.Author.Needs.{needs}
-use lib.ListN.{length, getD}
-use Rattle.laws.specs.Scatter.{Seats, Scattered}
+use lib.ListN.{getD}
+use Rattle.laws.specs.Scatter.{Scattered}
 use Rattle.laws.proofs.ScatterLaws.{scattered-none, scattered-again}
-use Rattle.places.specs.Sending.{sourceOf, Sources}
+use Rattle.places.specs.Sending.{sourceOf}
 use Rattle.places.proofs.send_symbol.Statement.{statement}
 use Rattle.places.proofs.send_symbol.Tie as tie
 

@@ -1,8 +1,6 @@
 -- `places::puncture::p1_origin` is P1, by its three parts.
 -- Assumes nothing.
-use mathlib.Core.Path.{_≡_, refl, sym, _∙_, ap}
-use native.Mathlib.Omega.{arith}
-use borrow.Author.Tests.{lt-ltb, le-ltb, eq-eqb, ne-eqb}
+use mathlib.Core.Path.{refl, sym}
 use Rattle.places.proofs.OriginLaws.{p1-before, p1-inside, p1-behind}
 use borrow.Author.Needs.{needs}
 use Rattle.places.proofs.puncture.p1_origin.Statement.{statement}

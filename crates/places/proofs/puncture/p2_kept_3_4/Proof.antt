@@ -1,8 +1,8 @@
 -- `places::puncture::p2_kept_3_4` is table 3 at rate 3/4.
 -- Assumes nothing.
-use mathlib.Core.Path.{_≡_, refl, sym, _∙_, ap}
+use mathlib.Core.Path.{refl}
 use native.Mathlib.Omega.{arith}
-use borrow.Author.Tests.{lt-ltb, le-ltb, eq-eqb, ne-eqb}
+use borrow.Author.Tests.{lt-ltb, le-ltb}
 use Rattle.places.proofs.OriginLaws.{p2-kept-3-4}
 use Rattle.places.proofs.puncture.p2_kept_3_4.Statement.{statement}
 use Rattle.places.proofs.puncture.p2_kept_3_4.Tie as tie

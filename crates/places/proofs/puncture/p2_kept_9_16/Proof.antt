@@ -1,8 +1,8 @@
 -- `places::puncture::p2_kept_9_16` is table 3 at rate 9/16.
 -- Assumes nothing.
-use mathlib.Core.Path.{_≡_, refl, sym, _∙_, ap}
+use mathlib.Core.Path.{refl}
 use native.Mathlib.Omega.{arith}
-use borrow.Author.Tests.{lt-ltb, le-ltb, eq-eqb, ne-eqb}
+use borrow.Author.Tests.{lt-ltb, le-ltb}
 use Rattle.places.proofs.OriginLaws.{p2-kept-9-16}
 use borrow.Author.Needs.{needs}
 use Rattle.places.proofs.puncture.p2_kept_9_16.Statement.{statement}

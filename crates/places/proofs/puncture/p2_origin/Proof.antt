@@ -1,7 +1,6 @@
 -- `places::puncture::p2_origin` is P2, rate by rate.
 -- Assumes nothing.
-use mathlib.Core.Path.{_≡_, refl, sym, _∙_, ap}
-use native.Mathlib.Omega.{arith}
+use mathlib.Core.Path.{refl}
 use Rattle.places.specs.Selection.{origin}
 use Rattle.places.specs.Puncture.{P2, p2Kept34, p2Kept916}
 use borrow.Author.Needs.{needs}

@@ -1,6 +1,6 @@
 -- `places::puncture::source` goes back through P2 and then P1.
 -- Assumes nothing.
-use mathlib.Core.Path.{refl, sym, _∙_, ap}
+use mathlib.Core.Path.{refl}
 use Rattle.places.specs.Sending.{sourceOf}
 use borrow.Author.Needs.{needs}
 use Rattle.places.proofs.puncture.source.Statement.{statement}

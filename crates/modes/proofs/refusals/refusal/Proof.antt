@@ -1,4 +1,4 @@
--- `modes::refusal` is the ladder of refusals 1 to 6.
+-- `modes::refusals::refusal` is the ladder of refusals 1 to 6.
 -- Assumes nothing.
 use mathlib.Core.Path.{_≡_, sym, _∙_, ap}
 use Prim.Native.Nat.{ℕ}
@@ -10,8 +10,8 @@ use Rattle.laws.specs.Ladder.{_when_, ladder}
 use Rattle.modes.specs.Modes.{info}
 use Rattle.modes.specs.Refusals.{placeAbove, lengths, described}
 use Rattle.modes.proofs.RefusalLaws.{described-stops, described-at-6, lengths-from-72}
-use Rattle.modes.proofs.refusal.Statement.{statement}
-use Rattle.modes.proofs.refusal.Tie as tie
+use Rattle.modes.proofs.refusals.refusal.Statement.{statement}
+use Rattle.modes.proofs.refusals.refusal.Tie as tie
 
 returns : tie.Need-returns
 unfolding ladder described

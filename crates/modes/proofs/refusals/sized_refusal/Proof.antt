@@ -1,10 +1,10 @@
--- `modes::sized_refusal` is the ladder of refusals 1, 3, 4 and 5.
+-- `modes::refusals::sized_refusal` is the ladder of refusals 1, 3, 4 and 5.
 -- Assumes nothing.
 use mathlib.Core.Path.{_∙_}
 use Rattle.modes.proofs.RefusalLaws.{described-sized}
 use borrow.Author.Needs.{needs}
-use Rattle.modes.proofs.sized_refusal.Statement.{statement}
-use Rattle.modes.proofs.sized_refusal.Tie as tie
+use Rattle.modes.proofs.refusals.sized_refusal.Statement.{statement}
+use Rattle.modes.proofs.refusals.sized_refusal.Tie as tie
 
 refusal-requires : tie.Need-refusal-requires
 refusal-requires c κs = search needs

@@ -1,12 +1,11 @@
--- `modes::length_refusal` is the ladder of refusals 3, 4 and 5.
+-- `modes::refusals::length_refusal` is the ladder of refusals 3, 4 and 5.
 -- Assumes nothing.
 use borrow.Author.Needs.{needs}
 use borrow.Author.Tests.{lt-ltb, le-ltb, eq-eqb, ne-eqb}
-use mathlib.Core.Bool.{not, _&&_, _||_}
 use Rattle.laws.specs.Ladder.{ladder}
 use Rattle.modes.specs.Refusals.{lengths}
-use Rattle.modes.proofs.length_refusal.Statement.{statement}
-use Rattle.modes.proofs.length_refusal.Tie as tie
+use Rattle.modes.proofs.refusals.length_refusal.Statement.{statement}
+use Rattle.modes.proofs.refusals.length_refusal.Tie as tie
 
 returns : tie.Need-returns
 unfolding ladder lengths

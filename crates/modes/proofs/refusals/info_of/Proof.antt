@@ -1,12 +1,12 @@
--- `modes::info_of` is table 1's last column.
+-- `modes::refusals::info_of` is table 1's last column.
 -- Assumes nothing.
-use mathlib.Core.Path.{_≡_, sym, _∙_, ap₂, subst}
+use mathlib.Core.Path.{sym, _∙_, ap₂, subst}
 use Prim.Native.Nat.{ℕ, _<_}
 use borrow.Author.Needs.{needs}
 use Rattle.modes.specs.Modes.{infoOf}
 use Rattle.modes.proofs.ModeLaws.{columns, info-above-0}
-use Rattle.modes.proofs.info_of.Statement.{statement}
-use Rattle.modes.proofs.info_of.Tie as tie
+use Rattle.modes.proofs.refusals.info_of.Statement.{statement}
+use Rattle.modes.proofs.refusals.info_of.Tie as tie
 
 mode-of-requires : tie.Need-mode-of-requires
 mode-of-requires c κs = search needs
