@@ -1,14 +1,13 @@
 -- Laws of bits in bytes: the value of a group, its place, and the test that bytes are bits.
 -- Assumes nothing.
-use mathlib.Core.Path.{_≡_, sym, ap, subst, _∙_}
+use mathlib.Core.Path.{_≡_, sym, ap, _∙_}
 use mathlib.Core.Bool.{true, false, _&&_}
-use mathlib.Core.List.{List, [], _∷_}
+use mathlib.Core.List.{List}
 use Prim.Native.Nat.{ℕ, zero, suc, _+_, _*_, _^_, _<_, _≤_}
 use native.Mathlib.Nat.{pow-suc, mul-suc, mul-le-mul-left, le-trans}
 use native.Mathlib.Numerals.{add-one}
 use native.Mathlib.Omega.{arith}
-use lib.Dec.{T, ltb, lit<, ltb→lt}
-use lib.Ieee.Fits.{and-l, and-r}
+use lib.Dec.{ltb}
 use lib.ListN.{length, getD, drop, drop-of-length-le}
 use lib.Pow.{pow-mono}
 use lib.Seq.{drop-cons}
@@ -52,13 +51,3 @@ module _ (l : List ℕ) (k : ℕ) (rest : allBits l ≡ allBits (drop k l)) wher
   pub bits-end : length l ≤ k → true ≡ allBits l
   unfolding allBits
   bits-end h = sym (rest ∙ ap allBits (drop-of-length-le l h))
-
-passing : (l : List ℕ) → T (allBits l) → (k : ℕ) → getD l k 0 < 2
-unfolding allBits
-passing [] t k = lit< tt
-passing (x ∷ xs) t zero = ltb→lt x 2 (and-l (ltb x 2) (allBits xs) t)
-passing (x ∷ xs) t (suc k) = passing xs (and-r (ltb x 2) (allBits xs) t) k
-
--- where the test holds every byte is a bit
-pub all-bits : (l : List ℕ) → allBits l ≡ true → (k : ℕ) → getD l k 0 < 2
-all-bits l e = passing l (subst T (sym e) tt)
