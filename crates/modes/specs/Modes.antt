@@ -1,6 +1,7 @@
 -- The modes: table 1, which gives each number its constellation and rate, and the values of these.
 --   Row, table1   document 01's table, a row to a mode, in its columns
 --   rowOf         the row of a mode's number; for any other number the row of no mode
+--   constellationIn .. infoIn          the columns of a row
 --   constellationOf, rateOf, bits, sent, info   the columns, by a mode's number
 --   bitsOf        a constellation's bits per carrier
 --   infoOf        a pair's information bits per symbol
@@ -39,18 +40,23 @@ noMode = row Qam64 Half 0 0 0
 unfoldable pub rowOf : ℕ → Row
 rowOf k = getD (noMode ∷ table1) k noMode
 
+-- a row's constellation
 unfoldable pub constellationIn : Row → Constellation
 constellationIn (row c r b s i) = c
 
+-- a row's code rate
 unfoldable pub rateIn : Row → Rate
 rateIn (row c r b s i) = r
 
+-- a row's bits per carrier
 unfoldable pub bitsIn : Row → ℕ
 bitsIn (row c r b s i) = b
 
+-- a row's sent bits per symbol
 unfoldable pub sentIn : Row → ℕ
 sentIn (row c r b s i) = s
 
+-- a row's information bits per symbol
 unfoldable pub infoIn : Row → ℕ
 infoIn (row c r b s i) = i
 

@@ -62,7 +62,8 @@ takes-rate ThreeQuarters c s =
 takes-P2 : (k : ℕ) → 1 ≤ k → k ≤ 7 → (s : ℕ) → Takes (P2 (rateOf k)) (2 * (info k * s)) (sent k * s)
 takes-P2 k low high s =
     let (b, S, i) = columns k low high in
-    rw (S, b, i, mul-comm _ s, mul-comm _ s) (takes-rate (rateOf k) (constellationOf k) s)
+    rw (S, b, i, mul-comm (infoOf (constellationOf k) (rateOf k)) s, mul-comm (48 * bitsOf (constellationOf k)) s)
+    (takes-rate (rateOf k) (constellationOf k) s)
 
 pub sent-some : (k : ℕ) → 1 ≤ k → k ≤ 7 → 0 < sent k
 unfolding sent sentIn rowOf table1 noMode
