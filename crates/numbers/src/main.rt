@@ -1,0 +1,159 @@
+// Runs the public calls of `modem` on what standard input asks for and prints what they answer, a line for each.
+//
+//     encode MODE COUNTER N A OCTETS ROOM       refusal, sent bits
+//     ideal MODE N SENT ROOM-I ROOM-Q           refusal, i, readings, q, readings
+//     mapped MODE GROUP                         refusal, the bits of the two f32 parts in hexadecimal
+//
+// OCTETS and SENT are bytes in hexadecimal, `-` for none. ROOM is how many elements are lent for the answer; all of them are
+// printed, 7 where the call wrote nothing. The run ends at the first line that is none of these. host/reference.py makes the
+// input and, from the documents, the output that is expected.
+mod bytes;
+mod shown;
+mod words;
+
+use libc::STDIN_FILENO;
+use libc::STDOUT_FILENO;
+use shown::MARK;
+use shown::MARK_READING;
+use words::Field;
+
+// The most that is lent.
+const MOST: usize = 7000;
+
+// Ends the run.
+fn failed() -> Field {
+    Field {
+        value: 0,
+        at: 0,
+        good: false,
+    }
+}
+
+fn show_encode(mode: u32, counter: u32, n: u32, a: u32, octets: &[u8], sent: &mut [u8]) {
+    let refusal = modem::encode(mode, counter, n, a, octets, sent);
+    io::print_decimal(STDOUT_FILENO, refusal as u64);
+    shown::bits(sent);
+}
+
+fn encode(text: &[u8], f: Field) -> Field {
+    let mode = words::number(text, f);
+    let counter = words::number(text, mode);
+    let n = words::number(text, counter);
+    let a = words::number(text, n);
+    let mut octets = [0u8; 512];
+    let given = bytes::list(text, a, &mut octets);
+    let room = words::number(text, given);
+    if !room.good {
+        return failed();
+    }
+    let many = given.value;
+    let size = room.value;
+    if size > MOST {
+        return failed();
+    }
+    let mut sent = [MARK; 7000];
+    show_encode(
+        mode.value as u32,
+        counter.value as u32,
+        n.value as u32,
+        a.value as u32,
+        &octets[0..many],
+        &mut sent[0..size],
+    );
+    room
+}
+
+fn show_ideal(mode: u32, n: u32, sent: &[u8], i: &mut [i16], q: &mut [i16]) {
+    let refusal = modem::ideal(mode, n, sent, i, q);
+    io::print_decimal(STDOUT_FILENO, refusal as u64);
+    io::write_all(STDOUT_FILENO, b" i");
+    shown::readings(i);
+    io::write_all(STDOUT_FILENO, b" q");
+    shown::readings(q);
+}
+
+fn ideal(text: &[u8], f: Field) -> Field {
+    let mode = words::number(text, f);
+    let n = words::number(text, mode);
+    let mut sent = [0u8; 7000];
+    let given = bytes::list(text, n, &mut sent);
+    let room_i = words::number(text, given);
+    let room_q = words::number(text, room_i);
+    if !room_q.good {
+        return failed();
+    }
+    let many = given.value;
+    let size_i = room_i.value;
+    let size_q = room_q.value;
+    if size_i > MOST {
+        return failed();
+    }
+    if size_q > MOST {
+        return failed();
+    }
+    let mut i = [MARK_READING; 7000];
+    let mut q = [MARK_READING; 7000];
+    show_ideal(
+        mode.value as u32,
+        n.value as u32,
+        &sent[0..many],
+        &mut i[0..size_i],
+        &mut q[0..size_q],
+    );
+    room_q
+}
+
+fn mapped(text: &[u8], f: Field) -> Field {
+    let mode = words::number(text, f);
+    let group = words::number(text, mode);
+    if !group.good {
+        return failed();
+    }
+    let answer = modem::mapped(mode.value as u32, group.value as u32);
+    let point = answer.point;
+    io::print_decimal(STDOUT_FILENO, answer.refusal as u64);
+    shown::float(point.i);
+    shown::float(point.q);
+    group
+}
+
+// Does what the line at `at` asks for.
+fn command(text: &[u8], at: usize) -> Field {
+    let name = words::word(text, at);
+    let f = Field {
+        value: 0,
+        at: words::after(text, at),
+        good: true,
+    };
+    if check::same(name, b"encode") {
+        return encode(text, f);
+    }
+    if check::same(name, b"ideal") {
+        return ideal(text, f);
+    }
+    if check::same(name, b"mapped") {
+        return mapped(text, f);
+    }
+    failed()
+}
+
+fn run(text: &[u8]) {
+    let mut at = 0;
+    while at < text.len() {
+        let done = command(text, at);
+        if !done.good {
+            return;
+        }
+        if done.at <= at {
+            return;
+        }
+        io::write_all(STDOUT_FILENO, b"\n");
+        at = done.at;
+    }
+}
+
+fn main() {
+    let mut text = io::large_buffer();
+    let n = io::read_full(STDIN_FILENO, &mut text);
+    run(&text[..n]);
+}
