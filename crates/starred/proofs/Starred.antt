@@ -6,8 +6,8 @@ use Rattle.modes.specs.Modes.{bits, bitsIn, sent, sentIn, rowOf, table1, noMode
 use Rattle.places.specs.Interleaver.{unit, firstStep, secondStep, placeInSymbol}
 use Rattle.coder.specs.Scrambler.{state, scrambledBit, scrambled}
 use Rattle.coder.specs.Encoder.{tail, tailed, lagsX, lagsY, lag, tapped, coded}
-use Rattle.starred.specs.Cases.{placeIn, sending, Hold}
+use Rattle.starred.specs.Cases.{placeIn, cases, Hold}
 
-pub starred : Hold sending
-unfolding Hold sending placeIn placeInSymbol unit firstStep secondStep bits bitsIn sent sentIn rowOf table1 noMode tabulate state scrambledBit scrambled tail tailed lagsX lagsY lag tapped coded
+pub starred : Hold cases
+unfolding Hold cases placeIn placeInSymbol unit firstStep secondStep bits bitsIn sent sentIn rowOf table1 noMode tabulate state scrambledBit scrambled tail tailed lagsX lagsY lag tapped coded
 starred = (refl, (refl, (refl, (refl, (refl, tt)))))

@@ -1,6 +1,6 @@
 -- The cases that document 01 marks *: what the definitions give, beside what the document says.
 --   Case, _gives_   numbers worked out by the definitions, and the document's numbers
---   sending         the starred cases of the sending side
+--   cases           the starred cases
 --   Hold            in every case of a list the two are the same
 -- Assumes nothing.
 use Prim.Native.Nat.{ℕ}
@@ -21,9 +21,9 @@ pub data Case : Type 0 where
 unfoldable pub placeIn : ℕ → ℕ → ℕ
 placeIn mode k = placeInSymbol (sent mode) (bits mode) k
 
--- the starred cases of the sending side
-unfoldable pub sending : List Case
-sending =
+-- the starred cases
+unfoldable pub cases : List Case
+cases =
     -- with counter 0100, bits 10011101 000 become 00111110 011
     (scrambled 0b0100 11 (0b10011101 ∷ 0b00000000 ∷ []) gives 0 ∷ 0 ∷ 1 ∷ 1 ∷ 1 ∷ 1 ∷ 1 ∷ 0 ∷ 0 ∷ 1 ∷ 1 ∷ [])
     -- input 1 and six zeros: pairs XY 11 01 11 11 00 10 11
@@ -39,4 +39,4 @@ sending =
 -- in every case the two are the same
 unfoldable pub Hold : List Case → Type 0
 Hold [] = Unit {0}
-Hold ((found gives said) ∷ cases) = (found ≡ said) × Hold cases
+Hold ((found gives said) ∷ rest) = (found ≡ said) × Hold rest
