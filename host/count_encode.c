@@ -1,11 +1,8 @@
 /* Encodes a train of N = 3456, mode 6, a = 72 COUNT times with the proved encoder, and prints the same sum over sent bits
  * as host/encode_rs does. host/count_encode.sh builds and counts both. */
-#include <stdint.h>
+#include "juzambore.h"
 #include <stdio.h>
 #include <stdlib.h>
-
-uint32_t juzambore_encode(uint32_t mode, uint32_t counter, uint32_t n, uint32_t a, const uint8_t *octets,
-                          size_t octets_len, uint8_t *sent, size_t sent_len);
 
 int main(int argc, char **argv)
 {

@@ -12,7 +12,7 @@ trap 'rm -r "$work"' EXIT
 
 rustc -C opt-level=3 -o "$work/rust" host/encode_rs/encode.rs
 rt staticlib juzambore > "$work/log" 2>&1 || { tail -n 20 "$work/log"; exit 1; }
-cc -O2 -o "$work/proved" host/count_encode.c target/staticlib/libjuzambore.a
+cc -O2 -Wall -Icrates/juzambore -o "$work/proved" host/count_encode.c target/staticlib/libjuzambore.a
 
 python3 host/reference.py trains 140 > "$work/trains"
 for file in host/vectors/encode.txt "$work/trains"; do

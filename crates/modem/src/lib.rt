@@ -42,6 +42,7 @@ fn send(train: Train, octets: &[u8], sent: &mut [u8])
     places::send_pdu(mode, symbols, a, 0, &coded, sent);
 }
 
+// The sent bits of a train of n information bits, one to a byte, in the order after the interleaver.
 pub fn encode(mode: u32, counter: u32, n: u32, a: u32, octets: &[u8], sent: &mut [u8]) -> u32
     ensures { λ r. ⌜ Encode mode counter n a (now (octets .entry)) (now (sent .entry)) r (now (sent .exit)) ⌝ }
 {

@@ -1,4 +1,4 @@
-// The modes of document 01 (000, table 1), the description of a train, its sizes, and the refusals 1 to 6.
+// The modes of document 01 (000, table 1), the description of a train, its sizes, and (refusals.rt) the refusals 1 to 6.
 // The numbers of a call are tested here, in the table's order; what has passed is a Train, whose mode is two enums.
 // Lengths of slices, and what stands in them, are tested by the calls.
 mod refusals;
@@ -88,7 +88,7 @@ pub fn bits_per_carrier(c: Constellation) -> u32
     }
 }
 
-pub fn info_per_symbol(m: Mode) -> u32
+fn info_per_symbol(m: Mode) -> u32
     ensures { λ r. ⌜ (r ≡ infoOf (m .constellation) (m .rate)) × (24 ≤ r) × (r ≤ 216) ⌝ }
 {
     let c = m.constellation;
