@@ -10,7 +10,7 @@ use Rattle.laws.specs.Lists.{filled}
 use Rattle.laws.proofs.ListLaws.{filled-at, filled-same}
 use Rattle.modes.specs.declared.Constellation.{Constellation}
 use Rattle.modes.specs.declared.Rate.{Rate}
-use Rattle.modes.specs.Modes.{infoOf, numberOf}
+use Rattle.modes.specs.Modes.{bitsOf, infoOf, numberOf}
 use Rattle.modes.specs.Sizes.{symbols, sentBits, octetsOf}
 use Rattle.modes.specs.Description.{Legal}
 use Rattle.modes.proofs.ModeLaws.{by-enums}
@@ -26,7 +26,7 @@ use Rattle.modem.specs.Encode.{sentBit}
 
 module _ (c : Constellation) (rate : Rate) (counter N a : ℕ) (legal : Legal (numberOf c rate) counter N a) where
   -- a train's sent bits by its two enums
-  pub sent-by-enums : symbolBits c (symbols (numberOf c rate) N) ≡ sentBits (numberOf c rate) N
+  pub sent-by-enums : symbolBits (bitsOf c) (symbols (numberOf c rate) N) ≡ sentBits (numberOf c rate) N
   unfolding sentBits
   sent-by-enums = ap (λ (n : ℕ). symbols (numberOf c rate) N * n) (sym (by-enums c rate (legal .fit .from-1) (legal .fit .to-7) .1))
 
@@ -36,7 +36,7 @@ module _ (c : Constellation) (rate : Rate) (counter N a : ℕ) (legal : Legal (n
 
   -- there is room for the train's one PDU
   pub train-room : (coded sent : ℕ) → 2 * (N + 6) ≤ coded → sentBits (numberOf c rate) N ≤ sent
-      → PduRoom c rate (symbols (numberOf c rate) N) a 0 coded sent
+      → PduRoom (bitsOf c) rate (symbols (numberOf c rate) N) a 0 coded sent
   train-room coded sent room enough =
       let fit = legal .fit in
       let i = by-enums c rate (fit .from-1) (fit .to-7) .2 in
@@ -51,7 +51,7 @@ module _ (c : Constellation) (rate : Rate) (counter N a : ℕ) (legal : Legal (n
   -- a sent bit, read from the coded bits
   read : (octets coded room : List ℕ) → coded ≡ filled (2 * (N + 6)) (codedBit counter N octets) room
       → (q : ℕ) → q < sentBits (numberOf c rate) N
-      → pduBit c rate a 0 coded q ≡ codedBit counter N octets (origin (train (numberOf c rate) a) q)
+      → pduBit (bitsOf c) rate a 0 coded q ≡ codedBit counter N octets (origin (train (numberOf c rate) a) q)
   unfolding pduBit train origin
   read octets coded room e q h =
       let fit = legal .fit in
@@ -62,7 +62,7 @@ module _ (c : Constellation) (rate : Rate) (counter N a : ℕ) (legal : Legal (n
   -- the buffer that holds a PDU's sent bits, read from the coded bits, holds the train's
   pub train-sent : (octets coded room sent sent′ : List ℕ)
       → coded ≡ filled (2 * (N + 6)) (codedBit counter N octets) room
-      → sent′ ≡ filled (symbolBits c (symbols (numberOf c rate) N)) (pduBit c rate a 0 coded) sent
+      → sent′ ≡ filled (symbolBits (bitsOf c) (symbols (numberOf c rate) N)) (pduBit (bitsOf c) rate a 0 coded) sent
       → sent′ ≡ filled (sentBits (numberOf c rate) N) (sentBit (numberOf c rate) counter N a octets) sent
   unfolding sentBit
   train-sent octets coded room sent sent′ ec es = es ∙ rw sent-by-enums (filled-same _ _ _ sent (read octets coded room ec))

@@ -17,10 +17,10 @@ use Rattle.modes.specs.declared.Constellation.{Constellation}
 use Rattle.modes.specs.declared.Constellation.the-variants.{Bpsk, Qpsk, Qam16, Qam64}
 use Rattle.modes.specs.declared.Rate.{Rate}
 use Rattle.modes.specs.Modes.{bitsOf, bits, bitsIn, sent, sentIn, rowOf, table1, noMode}
-use Rattle.places.specs.Selection.{origin, after}
+use Rattle.places.specs.Selection.{origin}
 use Rattle.places.specs.Puncture.{P1, P2}
 use Rattle.places.specs.Interleaver.{placeInSymbol, noPlaces, placesOf, seated, interleaver}
-use Rattle.places.specs.Trains.{pduOf}
+use Rattle.places.specs.Trains.{pduBy}
 use Rattle.places.specs.Sending.{sourceOf, Sources, symbolBits, pduBit}
 use Rattle.places.proofs.SymbolLaws.{seated-length, symbol-place-within, symbol-place-back, symbol-back-within, symbol-back-place}
 
@@ -75,10 +75,6 @@ interleaver-origin : (S b s j : ℕ) → j < S → origin (interleaver S b) (s *
 unfolding origin interleaver
 interleaver-origin S b s j h = rw (seated-length S b S, digits-div s h, digits-mod s h, mul-comm S s) refl
 
--- sent bit q of a PDU with b bits per carrier
-unfoldable pub sentAt : ℕ → Rate → ℕ → ℕ → List ℕ → ℕ → ℕ
-sentAt b rate a first coded q = getD coded (origin (P1 a) (first + origin (after (P2 rate) (interleaver (48 * b) b)) q)) 0
-
 -- a symbol that is still to be sent lies within the PDU
 pub symbol-inside : (c : Constellation) (b : ℕ) → b ≡ bitsOf c → (s symbols base : ℕ) → base ≡ s * (48 * b) → s < symbols
     → base + 48 * b ≤ symbols * (48 * bitsOf c)
@@ -94,11 +90,11 @@ sources-fewer rate a first n m coded less s =
 pub record Sent (b : ℕ) (rate : Rate) (a first : ℕ) (coded l₀ l : List ℕ) (s base : ℕ) : Type 0 where
   pub counted : base ≡ s * (48 * b)
   pub long : length l ≡ length l₀
-  pub bits : l ≡ filled base (sentAt b rate a first coded) l₀
+  pub bits : l ≡ filled base (pduBit b rate a first coded) l₀
 
 pub sent-none : (b : ℕ) (rate : Rate) (a first : ℕ) (coded l : List ℕ) → Sent b rate a first coded l l 0 0
 sent-none b rate a first coded l =
-    record { counted = omega (arith, zero-mul (48 * b)); long = refl; bits = sym (filled-none (sentAt b rate a first coded) l) }
+    record { counted = omega (arith, zero-mul (48 * b)); long = refl; bits = sym (filled-none (pduBit b rate a first coded) l) }
 
 module _ (c : Constellation) (b : ℕ) (e : b ≡ bitsOf c) (rate : Rate) (a first : ℕ) (coded l₀ : List ℕ) where
   -- a turn: one symbol more
@@ -106,7 +102,7 @@ module _ (c : Constellation) (b : ℕ) (e : b ≡ bitsOf c) (rate : Rate) (a fir
       → Sent b rate a first coded l₀ l s base
       → Scattered base (48 * b) (placesOf (48 * b) b) (λ k. getD coded (sourceOf rate a first (base + k)) 0) (48 * b) l l′
       → Sent b rate a first coded l₀ l′ (s + 1) (base + 48 * b)
-  unfolding sourceOf sentAt origin
+  unfolding sourceOf pduBit pduBy origin
   sent-again l l′ s base room before h =
       let S = 48 * b in
       let seat = seated-by c b e in
@@ -126,8 +122,7 @@ module _ (c : Constellation) (b : ℕ) (e : b ≡ bitsOf c) (rate : Rate) (a fir
 
   -- and when all are sent
   pub sent-done : (l : List ℕ) (s symbols base : ℕ) → s ≡ symbols → Sent b rate a first coded l₀ l s base
-      → l ≡ filled (symbolBits c symbols) (pduBit c rate a first coded) l₀
-  unfolding sentAt pduBit pduOf
+      → l ≡ filled (symbolBits (bitsOf c) symbols) (pduBit (bitsOf c) rate a first coded) l₀
   sent-done l s symbols base all h =
       h .bits
-      ∙ ap₂ (λ (n d : ℕ). filled n (sentAt d rate a first coded) l₀) (h .counted ∙ ap₂ (λ (m d : ℕ). m * (48 * d)) all e) e
+      ∙ ap₂ (λ (n d : ℕ). filled n (pduBit d rate a first coded) l₀) (h .counted ∙ ap₂ (λ (m d : ℕ). m * (48 * d)) all e) e

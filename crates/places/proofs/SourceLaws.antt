@@ -10,7 +10,7 @@ use Rattle.modes.proofs.ModeLaws.{enums-back, by-enums}
 use Rattle.places.specs.Selection.{origin}
 use Rattle.places.specs.Puncture.{P1, P2}
 use Rattle.places.specs.Sending.{sourceOf, Sources}
-use Rattle.places.specs.Trains.{pdu, pduOf}
+use Rattle.places.specs.Trains.{pdu, pduBy}
 use Rattle.places.proofs.SelectionLaws.{origin-place}
 use Rattle.places.proofs.TrainLaws.{takes-P1, takes-rate}
 
@@ -28,9 +28,9 @@ pdu-sources c rate a first s N coded share small inside room =
           omega arith;
     }
 
--- a PDU by its two enums is the PDU of that mode's number
-pub pdu-enums : (c : Constellation) (rate : Rate) → 1 ≤ numberOf c rate → numberOf c rate ≤ 7 → pduOf c rate ≡ pdu (numberOf c rate)
-unfolding pdu pduOf
+-- a PDU by its bits and its rate is the PDU of that mode's number
+pub pdu-enums : (c : Constellation) (rate : Rate) → 1 ≤ numberOf c rate → numberOf c rate ≤ 7 → pduBy (bitsOf c) rate ≡ pdu (numberOf c rate)
+unfolding pdu pduBy
 pdu-enums c rate low high =
     let (b, S, _) = by-enums c rate low high in
     rw (b, S, enums-back c rate low .1) refl

@@ -1,4 +1,4 @@
--- What the code that sends one PDU is lent, and what it leaves. The PDU's share of P1's output begins at `first`.
+-- What the code that sends one PDU is lent, and what it leaves: b bits per carrier, and a share of P1's output that begins at `first`.
 --   sourceOf    the coded bit that P1 and then the PDU's P2 put out at q
 --   Sources     there is such a coded bit for each of n sent bits
 --   symbolBits  the sent bits of so many symbols
@@ -8,12 +8,10 @@
 use Prim.Native.Nat.{ℕ, _+_, _*_, _<_, _≤_}
 use mathlib.Core.List.{List}
 use lib.ListN.{getD}
-use Rattle.modes.specs.declared.Constellation.{Constellation}
 use Rattle.modes.specs.declared.Rate.{Rate}
-use Rattle.modes.specs.Modes.{bitsOf}
 use Rattle.places.specs.Selection.{origin}
 use Rattle.places.specs.Puncture.{P1, P2}
-use Rattle.places.specs.Trains.{pduOf}
+use Rattle.places.specs.Trains.{pduBy}
 
 -- the coded bit that P1 and then the PDU's P2 put out at q
 unfoldable pub sourceOf : Rate → ℕ → ℕ → ℕ → ℕ
@@ -25,16 +23,16 @@ pub record Sources (rate : Rate) (a first n coded : ℕ) : Type 0 where
   pub present : (q : ℕ) → q < n → sourceOf rate a first q < coded
 
 -- the sent bits of so many symbols
-abbrev pub symbolBits : Constellation → ℕ → ℕ
-symbolBits c symbols = symbols * (48 * bitsOf c)
+abbrev pub symbolBits : ℕ → ℕ → ℕ
+symbolBits b symbols = symbols * (48 * b)
 
 -- the PDU's sent bit q, among a train's coded bits
-unfoldable pub pduBit : Constellation → Rate → ℕ → ℕ → List ℕ → ℕ → ℕ
-pduBit c rate a first coded q = getD coded (origin (P1 a) (first + origin (pduOf c rate) q)) 0
+unfoldable pub pduBit : ℕ → Rate → ℕ → ℕ → List ℕ → ℕ → ℕ
+pduBit b rate a first coded q = getD coded (origin (P1 a) (first + origin (pduBy b rate) q)) 0
 
 -- so many coded bits hold a source of each sent bit, and there is room for the sent bits
-pub record PduRoom (c : Constellation) (rate : Rate) (symbols a first coded sent : ℕ) : Type 0 where
+pub record PduRoom (b : ℕ) (rate : Rate) (symbols a first coded sent : ℕ) : Type 0 where
   pub place : a ≤ 3456
-  pub few : symbolBits c symbols ≤ 6912
-  pub room : symbolBits c symbols ≤ sent
-  pub sources : Sources rate a first (symbolBits c symbols) coded
+  pub few : symbolBits b symbols ≤ 6912
+  pub room : symbolBits b symbols ≤ sent
+  pub sources : Sources rate a first (symbolBits b symbols) coded

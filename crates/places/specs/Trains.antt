@@ -1,6 +1,6 @@
 -- Whole trains as selections of their coded bits, by the numbers of their modes.
 --   pdu     P2 and the interleaver of one mode
---   pduOf   the same by the two enums of a mode
+--   pduBy   the same by the bits per carrier and the rate
 --   train   document 01's train: P1 from input a on, then P2 and the interleaver of its mode
 --   Pdu, pdus, listed   a list of PDUs, each with its mode and length: P1 over all, then each PDU's 2 N bits by its own mode, P2 begun anew
 --   one     a list of one PDU
@@ -10,9 +10,8 @@
 use mathlib.Core.Path.{_≡_}
 use Prim.Native.Nat.{ℕ, _+_, _*_, _%_, _≤_}
 use mathlib.Core.List.{List, [], _∷_}
-use Rattle.modes.specs.declared.Constellation.{Constellation}
 use Rattle.modes.specs.declared.Rate.{Rate}
-use Rattle.modes.specs.Modes.{bitsOf, rateOf, bits, sent, info}
+use Rattle.modes.specs.Modes.{rateOf, bits, sent, info}
 use Rattle.modes.specs.Sizes.{sentBits}
 use Rattle.places.specs.Selection.{Selection, all, after, beside}
 use Rattle.places.specs.Puncture.{P1, P2}
@@ -22,9 +21,9 @@ use Rattle.places.specs.Interleaver.{interleaver}
 unfoldable pub pdu : ℕ → Selection
 pdu mode = after (P2 (rateOf mode)) (interleaver (sent mode) (bits mode))
 
--- the same by the two enums of a mode
-unfoldable pub pduOf : Constellation → Rate → Selection
-pduOf c rate = after (P2 rate) (interleaver (48 * bitsOf c) (bitsOf c))
+-- the same by the bits per carrier and the rate
+unfoldable pub pduBy : ℕ → Rate → Selection
+pduBy b rate = after (P2 rate) (interleaver (48 * b) b)
 
 -- document 01's train
 unfoldable pub train : ℕ → ℕ → Selection

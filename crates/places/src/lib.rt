@@ -11,6 +11,7 @@ ghost use Prim.Native.Nat.{_+_, _≤_};
 ghost use lib.ListN.{length, getD};
 ghost use Rattle.laws.specs.Lists.{filled};
 ghost use Rattle.laws.specs.Scatter.{Seats, Scattered};
+ghost use Rattle.modes.specs.Modes.{bitsOf};
 ghost use Rattle.places.specs.Sending.{sourceOf, Sources, symbolBits, pduBit, PduRoom};
 
 fn wide(x: u16) -> usize
@@ -46,8 +47,8 @@ fn send_symbol(
 
 // One PDU: its sent bits at the front of `sent`, from the train's coded bits.
 pub fn send_pdu(mode: Mode, symbols: usize, a: usize, first: usize, coded: &[u8], sent: &mut [u8])
-    requires { ⌜ PduRoom (mode .constellation) (mode .rate) symbols a first (length (now coded)) (length (now sent)) ⌝ }
-    ensures { λ _. ⌜ now (sent .exit) ≡ filled (symbolBits (mode .constellation) symbols) (pduBit (mode .constellation) (mode .rate) a first (now (coded .entry))) (now (sent .entry)) ⌝ }
+    requires { ⌜ PduRoom (bitsOf (mode .constellation)) (mode .rate) symbols a first (length (now coded)) (length (now sent)) ⌝ }
+    ensures { λ _. ⌜ now (sent .exit) ≡ filled (symbolBits (bitsOf (mode .constellation)) symbols) (pduBit (bitsOf (mode .constellation)) (mode .rate) a first (now (coded .entry))) (now (sent .entry)) ⌝ }
 {
     let c = mode.constellation;
     let rate = mode.rate;
