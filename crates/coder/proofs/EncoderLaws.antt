@@ -1,30 +1,41 @@
 -- The encoder by lags is the register under its two masks.
 -- Assumes nothing.
-use mathlib.Core.Path.{_≡_, sym}
+use mathlib.Core.Path.{_≡_, refl, sym, ap₂}
 use mathlib.Core.Bool.{Bool, true, false}
 use mathlib.Core.List.{List, [], _∷_}
 use Prim.Native.Nat.{ℕ, zero, suc, _+_, _-_, _*_, _/_, _%_, _<_}
-use native.Mathlib.Nat.{sub-zero, suc-sub-suc}
+use native.Mathlib.Nat.{suc-sub-suc}
 use native.Mathlib.Omega.{arith}
-use lib.Dec.{T, leb, eqb, leb·zero, leb·suc-zero, leb·suc-suc, eqb→eq}
+use lib.Dec.{T, leb, eqb, leb·suc-suc, eqb→eq}
 use lib.ListN.{length, getD}
 use lib.Count.{ones, onesIn}
+use borrow.Author.Tests.{le-leb, lt-leb}
 use Rattle.laws.specs.Lists.{choose}
 use Rattle.laws.proofs.Tables.{both, both-left, both-right}
 use Rattle.coder.specs.Encoder.{lag, lagsX, lagsY, tapped, coded}
-use Rattle.coder.specs.Register.{register, parity, maskX, maskY}
+use Rattle.coder.specs.Register.{entered, register, parity, maskX, maskY}
 
 -- every input is a bit
 abbrev pub Bits : List ℕ → Type 0
 Bits w = (t : ℕ) → getD w t 0 < 2
 
-lag-0 : (w : List ℕ) (t : ℕ) → lag w t 0 ≡ getD w t 0
+-- what stands k before place t + k stands at place t
+pub lag-back : (w : List ℕ) (t k m : ℕ) → m ≡ t + k → lag w m k ≡ getD w t 0
 unfolding lag
-lag-0 w t = simp (leb·zero, sub-zero)
+lag-back w t k m e =
+    let back : m - k ≡ t = omega arith in
+    rw (le-leb k m (omega arith), back)
+
+-- before the start stands zero
+pub lag-none : (w : List ℕ) (t k : ℕ) → t < k → lag w t k ≡ 0
+unfolding lag
+lag-none w t k h = rw (lt-leb k t h)
+
+lag-0 : (w : List ℕ) (t : ℕ) → lag w t 0 ≡ getD w t 0
+lag-0 w t = lag-back w t 0 t (omega arith)
 
 lag-start : (w : List ℕ) (k : ℕ) → lag w 0 (suc k) ≡ 0
-unfolding lag
-lag-start w k = simp leb·suc-zero
+lag-start w k = lag-none w 0 (suc k) (omega arith)
 
 lag-suc : (w : List ℕ) (t k : ℕ) → lag w (suc t) (suc k) ≡ lag w t k
 unfolding lag
@@ -55,6 +66,24 @@ register-window w b zero =
 register-window w b (suc t) =
     rw (register-window w b t, lag-0 w (suc t), lag-suc w t 0, lag-suc w t 1, lag-suc w t 2, lag-suc w t 3, lag-suc w t 4, lag-suc w t 5)
     (omega (arith, lag-bit w b t 6))
+
+-- the same, bit by bit
+pub register-lags : (w : List ℕ) → Bits w → (t : ℕ)
+    → register w (suc t) ≡ 64 * lag w t 0 + 32 * lag w t 1 + 16 * lag w t 2 + 8 * lag w t 3 + 4 * lag w t 4 + 2 * lag w t 5 + lag w t 6
+unfolding window
+register-lags w b t = omega (arith, register-window w b t)
+
+pub register-low : (w : List ℕ) → Bits w → (t : ℕ) → register w t < 128
+unfolding register
+register-low w b zero = omega arith
+register-low w b (suc t) = omega (arith, register-low w b t, b t)
+
+-- the register knows the inputs that have come
+pub register-same : (w v : List ℕ) (t : ℕ) → ((k : ℕ) → k < t → getD w k 0 ≡ getD v k 0) → register w t ≡ register v t
+unfolding register
+register-same w v zero same = refl
+register-same w v (suc t) same =
+    ap₂ entered (register-same w v t (λ k h. same k (omega arith))) (same t (omega arith))
 
 -- a test at every list of n bits
 abbrev everywhere : ℕ → (List ℕ → Bool) → Bool

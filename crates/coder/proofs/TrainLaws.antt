@@ -9,10 +9,11 @@ use lib.Dec.{ltb}
 use borrow.Author.Tests.{ltb-true, ltb-false}
 use lib.ListN.{length, getD, List·getD-append}
 use lib.Seq.{getD-append-add}
-use Rattle.laws.specs.Lists.{choose}
+use Rattle.laws.specs.Lists.{choose, tabulate}
 use Rattle.laws.proofs.ListLaws.{tabulate-length, tabulate-at}
 use Rattle.coder.specs.Scrambler.{scrambledBit, scrambled}
 use Rattle.coder.specs.Encoder.{tail, tailed}
+use Rattle.coder.specs.Train.{Train}
 use Rattle.coder.proofs.EncoderLaws.{Bits}
 
 -- the tail is zeros, and so is what would follow it
@@ -36,6 +37,28 @@ tailed-after w t h =
     let e : length w + (t - length w) ≡ t = omega arith in
     rw e at (getD-append-add w tail (t - length w) 0 ∙ tail-zero (t - length w))
 
+-- the tail is bits too, and so is what stands behind it
+pub tailed-bits : {N : ℕ} {w : List ℕ} → Train N w → Bits (tailed w)
+tailed-bits {N} {w} train t = go (ltb t (length w)) refl
+  where
+    go : (x : Bool) → ltb t (length w) ≡ x → getD (tailed w) t 0 < 2
+    go true e = let h : t < length w = ltb-true t (length w) e in rw (tailed-before w t h) (train .low t (omega (arith, train .count)))
+    go false e = omega (arith, tailed-after w t (ltb-false t (length w) e))
+
+module _ (N : ℕ) (f : ℕ → ℕ) where
+  -- bits make a train
+  pub tabulate-train : ((k : ℕ) → f k < 2) → Train N (tabulate N f)
+  tabulate-train bits = record { count = tabulate-length N f; low = λ k h. rw (tabulate-at N f k 0 h) (bits k) }
+
+  -- and zeros follow it
+  pub tailed-tabulate : (k : ℕ) → getD (tailed (tabulate N f)) k 0 ≡ choose (ltb k N) (f k) 0
+  tailed-tabulate k = go (ltb k N) refl
+    where
+      go : (x : Bool) → ltb k N ≡ x → getD (tailed (tabulate N f)) k 0 ≡ choose x (f k) 0
+      go true e =
+          tailed-before (tabulate N f) k (rw (tabulate-length N f) (ltb-true k N e)) ∙ tabulate-at N f k 0 (ltb-true k N e)
+      go false e = tailed-after (tabulate N f) k (rw (tabulate-length N f) (ltb-false k N e))
+
 pub scrambled-length : (counter N : ℕ) (octets : List ℕ) → length (scrambled counter N octets) ≡ N
 unfolding scrambled
 scrambled-length counter N octets = tabulate-length N (scrambledBit counter octets)
@@ -43,16 +66,8 @@ scrambled-length counter N octets = tabulate-length N (scrambledBit counter octe
 -- input t is a scrambled bit below N, and a zero from there on
 pub input-at : (counter N : ℕ) (octets : List ℕ) (t : ℕ)
     → getD (tailed (scrambled counter N octets)) t 0 ≡ choose (ltb t N) (scrambledBit counter octets t) 0
-input-at counter N octets t = go (ltb t N) refl
-  where
-    e : length (scrambled counter N octets) ≡ N
-    e = scrambled-length counter N octets
-
-    go : (b : Bool) → ltb t N ≡ b → getD (tailed (scrambled counter N octets)) t 0 ≡ choose b (scrambledBit counter octets t) 0
-    go true h =
-        tailed-before (scrambled counter N octets) t (rw e (ltb-true t N h))
-        ∙ unfold scrambled in tabulate-at N (scrambledBit counter octets) t 0 (ltb-true t N h)
-    go false h = tailed-after (scrambled counter N octets) t (rw e (ltb-false t N h))
+unfolding scrambled
+input-at counter N octets = tailed-tabulate N (scrambledBit counter octets)
 
 pub scrambled-bit : (counter : ℕ) (octets : List ℕ) (t : ℕ) → scrambledBit counter octets t < 2
 unfolding scrambledBit
@@ -60,8 +75,5 @@ scrambled-bit counter octets t = omega arith
 
 -- every input is a bit
 pub input-bits : (counter N : ℕ) (octets : List ℕ) → Bits (tailed (scrambled counter N octets))
-input-bits counter N octets t = rw (input-at counter N octets t) (go (ltb t N))
-  where
-    go : (b : Bool) → choose b (scrambledBit counter octets t) 0 < 2
-    go true = scrambled-bit counter octets t
-    go false = omega arith
+unfolding scrambled
+input-bits counter N octets = tailed-bits (tabulate-train N (scrambledBit counter octets) (scrambled-bit counter octets))

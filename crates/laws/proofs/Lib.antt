@@ -4,3 +4,4 @@ pub mod LadderLaws
 pub mod SumLaws
 pub mod ScatterLaws
 pub mod AnswerLaws
+pub mod PackingLaws

@@ -9,8 +9,8 @@ use native.Mathlib.Numerals.{add-one}
 use native.Mathlib.Omega.{arith}
 use lib.Dec.{ltb}
 use borrow.Author.Tests.{ltb-true, ltb-false}
-use lib.ListN.{length, getD, set, drop, length-append, length-drop, List·getD-append}
-use lib.Seq.{drop-cons, set-at, append-snoc, getD-append-add, getD-drop, ext-getD}
+use lib.ListN.{length, getD, set, take, drop, length-append, length-drop, List·getD-append}
+use lib.Seq.{take-at, drop-at, drop-cons, set-at, append-snoc, getD-append-add, getD-drop, ext-getD}
 use Rattle.laws.specs.Lists.{tabulate, filled}
 
 module _ {ℓ} {A : Type ℓ} where
@@ -81,6 +81,19 @@ module _ {ℓ} {A : Type ℓ} where
   filled-past n f l k d h =
       let e : n + (k - n) ≡ k = omega arith in
       rw e at (beyond (tabulate n f) n l (k - n) d (tabulate-length n f))
+
+  -- the part that is filled, and the rest
+  pub filled-take : (n : ℕ) (f : ℕ → A) (l : List A) → take n (filled n f l) ≡ tabulate n f
+  unfolding filled
+  filled-take n f l = take-at (tabulate n f) (drop n l) n (tabulate-length n f)
+
+  pub filled-drop : (n : ℕ) (f : ℕ → A) (l : List A) → drop n (filled n f l) ≡ drop n l
+  unfolding filled
+  filled-drop n f l = drop-at (tabulate n f) (drop n l) n (tabulate-length n f)
+
+  -- filled again from the start
+  pub filled-over : (n : ℕ) (f g : ℕ → A) (l : List A) → filled n f (filled n g l) ≡ filled n f l
+  filled-over n f g l = unfold filled in ap (λ r. tabulate n f ++ r) (filled-drop n g l)
 
   -- a buffer is known by its entries
   pub filled-ext : (d : A) (n : ℕ) (f : ℕ → A) (l l′ : List A)

@@ -1,10 +1,11 @@
--- Laws of sums over the numbers below a bound: equal terms, no terms, one term, sums of sums.
+-- Laws of sums over the numbers below a bound: equal terms, no terms, one term, terms in pairs, sums of sums.
 -- Assumes nothing.
 use mathlib.Core.Path.{_≡_, refl, sym, ap, ap₂, _∙_}
 use mathlib.Core.Bool.{Bool, true, false}
 use mathlib.Core.Logic.{_≢_}
-use Prim.Native.Nat.{ℕ, zero, suc, _+_, _<_}
+use Prim.Native.Nat.{ℕ, zero, suc, _+_, _*_, _<_}
 use native.Mathlib.Nat.{not-suc-le-zero}
+use native.Mathlib.Numerals.{add-one}
 use native.Mathlib.Omega.{arith}
 use lib.Dec.{eqb}
 use borrow.Author.Tests.{eqb-true, eqb-false}
@@ -38,10 +39,24 @@ total-only (suc n) f j h others = go (total-only n f j) (eqb n j) refl
         let first : total n f ≡ f j = lower (omega arith) (λ k hk. others k (omega arith)) in
         rw (first, others n (omega arith) apart) (omega arith)
 
+-- a sum over pairs
+pub total-pairs : (n : ℕ) (f : ℕ → ℕ) → total (2 * n) f ≡ total n (λ k. f (2 * k) + f (2 * k + 1))
+unfolding total
+total-pairs zero f = refl
+total-pairs (suc n) f =
+    let e : 2 * suc n ≡ suc (suc (2 * n)) = omega arith in
+    rw (e, add-one (2 * n)) (omega (arith, total-pairs n f))
+
 pub total-add : (n : ℕ) (f g : ℕ → ℕ) → total n (λ k. f k + g k) ≡ total n f + total n g
 unfolding total
 total-add zero f g = refl
 total-add (suc n) f g = rw (total-add n f g) (omega arith)
+
+-- two sums whose terms add up to those of two others, the first of these twice
+pub total-both : (n : ℕ) (f g p q : ℕ → ℕ) → ((k : ℕ) → k < n → f k + g k ≡ 2 * p k + q k) → total n f + total n g ≡ 2 * total n p + total n q
+unfolding total
+total-both zero f g p q each = refl
+total-both (suc n) f g p q each = omega (arith, total-both n f g p q (λ k h. each k (omega arith)), each n (omega arith))
 
 -- a double sum, the other way round
 pub total-swap : (n m : ℕ) (f : ℕ → ℕ → ℕ) → total n (λ i. total m (f i)) ≡ total m (λ j. total n (λ i. f i j))

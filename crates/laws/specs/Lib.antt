@@ -3,3 +3,4 @@ pub mod Sums
 pub mod Ladder
 pub mod Scatter
 pub mod Answers
+pub mod Packing

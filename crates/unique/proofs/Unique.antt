@@ -14,29 +14,22 @@ use Rattle.modes.specs.Modes.{info}
 use Rattle.modes.specs.Sizes.{sentBits, octetsOf}
 use Rattle.coder.specs.Scrambler.{scrambled}
 use Rattle.coder.specs.Encoder.{tailed, coded}
-use Rattle.coder.proofs.TrainLaws.{tailed-before, tailed-after}
+use Rattle.coder.specs.Train.{Train}
+use Rattle.coder.proofs.TrainLaws.{tailed-before, tailed-bits}
 use Rattle.places.specs.Selection.{Selection}
 use Rattle.places.specs.Trains.{pdu, train, Pdu, pdus, listed, lengthOf, sentOf, FitPdus}
 use Rattle.places.proofs.SelectionLaws.{Takes, place-origin}
 use Rattle.places.proofs.TrainLaws.{takes-train, takes-listed}
-use Rattle.unique.specs.Sameness.{Bits, Octets, SameSent}
+use Rattle.unique.specs.Sameness.{Octets, SameSent}
 use Rattle.unique.proofs.KeptLaws.{Sent}
 use Rattle.unique.proofs.WindowLaws.{windowed-pdu, windowed-pdus}
 use Rattle.unique.proofs.LocalLaws.{Shown, by-X, by-Y, by-next, step-shown}
 use Rattle.unique.proofs.EncodedLaws.{Alike, X-tells, Y-tells, next-tells}
 use Rattle.unique.proofs.OctetLaws.{scrambled-bits, octets-back}
 
--- the tail is bits too, and so is what stands behind it
-tailed-bits : {N : ℕ} {u : List ℕ} → Bits N u → (t : ℕ) → getD (tailed u) t 0 < 2
-tailed-bits {N} {u} bits t = go (ltb t (length u)) refl
-  where
-    go : (x : Bool) → ltb t (length u) ≡ x → getD (tailed u) t 0 < 2
-    go true e = let h : t < length u = ltb-true t (length u) e in rw (tailed-before u t h) (bits .low t (omega (arith, bits .count)))
-    go false e = omega (arith, tailed-after u t (ltb-false t (length u) e))
-
 -- two trains of N bits with the same sent bits, through a selection that shows every step
 module _ (f : Selection) (N n : ℕ) (takes : Takes f (2 * (N + 6)) n) (shown : (d : ℕ) → Shown f d)
-    (u v : List ℕ) (ubits : Bits N u) (vbits : Bits N v) (same : SameSent f n u v) where
+    (u v : List ℕ) (ubits : Train N u) (vbits : Train N v) (same : SameSent f n u v) where
   same-coded : (m : ℕ) → m < 2 * (N + 6) → Sent f m → coded (tailed u) m ≡ coded (tailed v) m
   same-coded m h s =
       let (out, back) = place-origin f takes m (s .at) h (s .there) in
@@ -70,7 +63,7 @@ module _ (f : Selection) (N n : ℕ) (takes : Takes f (2 * (N + 6)) n) (shown : 
 
 -- two trains of one list of PDUs
 pub listed-unique : (ps : List Pdu) (a : ℕ) → FitPdus ps → a + 72 ≤ lengthOf ps
-    → (u v : List ℕ) → Bits (lengthOf ps) u → Bits (lengthOf ps) v
+    → (u v : List ℕ) → Train (lengthOf ps) u → Train (lengthOf ps) v
     → SameSent (listed ps a) (sentOf ps) u v → u ≡ v
 unfolding listed
 listed-unique ps a fit fits =
@@ -78,7 +71,7 @@ listed-unique ps a fit fits =
 
 -- two of document 01's trains
 pub train-unique : (k N a : ℕ) → 1 ≤ k → k ≤ 7 → N % info k ≡ 0 → a + 72 ≤ N
-    → (u v : List ℕ) → Bits N u → Bits N v
+    → (u v : List ℕ) → Train N u → Train N v
     → SameSent (train k a) (sentBits k N) u v → u ≡ v
 unfolding train
 train-unique k N a low high whole fits =

@@ -1,5 +1,4 @@
 -- What is said of two trains.
---   Bits      a list of N bits
 --   Octets    a list of n octets
 --   SameSent  two trains' bits have the same n sent bits, each with its tail and encoded
 -- Assumes nothing.
@@ -9,11 +8,6 @@ use Prim.Native.Nat.{ℕ, _<_}
 use lib.ListN.{length, getD}
 use Rattle.coder.specs.Encoder.{tailed, coded}
 use Rattle.places.specs.Selection.{Selection, origin}
-
--- a list of N bits
-pub record Bits (N : ℕ) (u : List ℕ) : Type 0 where
-  pub count : length u ≡ N
-  pub low : (t : ℕ) → t < N → getD u t 0 < 2
 
 -- a list of n octets
 pub record Octets (n : ℕ) (s : List ℕ) : Type 0 where

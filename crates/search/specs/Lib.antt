@@ -1,0 +1,4 @@
+pub mod Stored
+pub mod Bytes
+pub mod Promises
+pub mod Followed

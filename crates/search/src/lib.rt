@@ -1,0 +1,134 @@
+// The search over the coded bits heard (document 01, demands 2 and 3): of all trains the one of least cost, and whether it is
+// confirmed. A coded bit comes as a soft byte counted from -128, or 0 where it was not heard. It refuses nothing: its callers have
+// tested what they lend.
+mod costs;
+mod step;
+mod words;
+
+ghost use mathlib.Core.Path.{_≡_};
+ghost use Prim.Native.Nat.{_+_, _*_, _<_, _≤_};
+ghost use lib.Dec.{ltb};
+ghost use lib.ListN.{length, getD, take};
+ghost use Rattle.laws.specs.Lists.{choose, filled};
+ghost use Rattle.laws.specs.Packing.{packed};
+ghost use Rattle.coder.specs.Register.{entered, parity};
+ghost use Rattle.trellis.specs.Heard.{branch};
+ghost use Rattle.trellis.specs.Passes.{best, choice};
+ghost use Rattle.search.specs.Stored.{start, above};
+ghost use Rattle.coder.specs.Train.{Train};
+ghost use Rattle.search.specs.Bytes.{costOf};
+ghost use Rattle.search.specs.Promises.{Searched, Marked};
+use costs::own_pair;
+use costs::pair_of;
+use step::masks_of;
+use step::started;
+use step::step;
+use words::follow;
+use words::weights;
+use words::word_of;
+
+// The polynomials as masks of the seven-bit register, whose newest bit is the highest.
+const X_TAPS: u32 = 0o133;
+
+const Y_TAPS: u32 = 0o171;
+
+const HALF: u32 = 2147483648;
+
+// The first pass: a word for each step, and the cost of the best way into state 0.
+fn forward(n: usize, heard: &[u8], words: &mut [u64]) -> u32
+    requires { ⌜ (n ≤ 3472) × (2 * (n + 6) ≤ length (now heard)) × (n + 6 ≤ length (now words)) ⌝ }
+    ensures cost { λ r. ⌜ r ≡ best (branch (costOf (now (heard .entry)))) start (n + 6) 0 ⌝ }
+    ensures decided { λ _. ⌜ now (words .exit) ≡ filled (n + 6) (λ t. packed 64 (choice (branch (costOf (now (heard .entry)))) start t)) (now (words .entry)) ⌝ }
+{
+    let xs = masks_of(X_TAPS);
+    let ys = masks_of(Y_TAPS);
+    let w = weights();
+    let mut costs = started();
+    let mut t = 0usize;
+    while t < n + 6 {
+        let turn = step(costs, &xs, &ys, pair_of(heard[2 * t], heard[2 * t + 1]));
+        let gaps = turn.gaps;
+        words[t] = word_of(&gaps, &w);
+        costs = turn.costs;
+        t += 1;
+    }
+    costs[0]
+}
+
+// Of all trains of n bits, the one of least cost; of equals, the one with 0 at the last place where the two differ. Its cost.
+pub fn search(n: usize, heard: &[u8], train: &mut [u8], words: &mut [u64]) -> u32
+    requires { ⌜ (n ≤ 3472) × (2 * (n + 6) ≤ length (now heard)) × (n ≤ length (now train)) × (n + 6 ≤ length (now words)) ⌝ }
+    ensures { λ r. ⌜ Searched n (now (heard .entry)) (now (train .entry)) (now (train .exit)) (now (words .entry)) (now (words .exit)) r ⌝ }
+{
+    let cost = forward(n, heard, words);
+    follow(n, train, words);
+    cost
+}
+
+fn wide(bit: u8) -> u32
+    ensures { λ r. ⌜ r ≡ bit ⌝ }
+{
+    bit as u32
+}
+
+// Input t of the encoder: a bit of the train, and behind it the tail's zeros.
+fn input_of(n: usize, train: &[u8], t: usize) -> u32
+    requires { ⌜ n ≤ length (now train) ⌝ }
+    ensures { λ r. ⌜ r ≡ choose (ltb t n) (getD (now (train .entry)) t 0) 0 ⌝ }
+{
+    if t < n { wide(train[t]) } else { 0 }
+}
+
+fn register_after(register: u32, bit: u32) -> u32
+    requires { ⌜ (register < 128) × (bit < 2) ⌝ }
+    ensures { λ r. ⌜ (r ≡ entered register bit) × (r < 128) ⌝ }
+{
+    register / 2 + 64 * bit
+}
+
+fn parity_of(register: u32, taps: u32) -> u32
+    ensures { λ r. ⌜ r ≡ parity register taps ⌝ }
+{
+    u32::count_ones(register & taps) % 2
+}
+
+// Whether the way with the other oldest bit lies strictly above the way with this one.
+fn is_above(gap: u32, oldest: u32) -> bool
+    ensures { λ r. ⌜ r ≡ above gap oldest ⌝ }
+{
+    if oldest == 0 {
+        0 < gap && gap < HALF
+    } else {
+        HALF <= gap
+    }
+}
+
+// Whether the train is confirmed: a second pass, with one more for each heard bit that agrees with the train's own, in which the way
+// into the train's state that is not its own must lie strictly above at every step.
+pub fn mark(n: usize, heard: &[u8], train: &[u8]) -> bool
+    requires { ⌜ (n ≤ 3472) × (2 * (n + 6) ≤ length (now heard)) × Train n (take n (now train)) ⌝ }
+    ensures { λ r. ⌜ Marked n (now (heard .entry)) (take n (now (train .entry))) r ⌝ }
+{
+    let xs = masks_of(X_TAPS);
+    let ys = masks_of(Y_TAPS);
+    let mut costs = started();
+    let mut register = 0u32;
+    let mut t = 0usize;
+    while t < n + 6 {
+        register = register_after(register, input_of(n, train, t));
+        let pair = own_pair(
+            heard[2 * t],
+            heard[2 * t + 1],
+            parity_of(register, X_TAPS),
+            parity_of(register, Y_TAPS),
+        );
+        let turn = step(costs, &xs, &ys, pair);
+        let gaps = turn.gaps;
+        if !is_above(gaps[(register / 2) as usize], register % 2) {
+            return false;
+        }
+        costs = turn.costs;
+        t += 1;
+    }
+    true
+}

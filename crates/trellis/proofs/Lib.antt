@@ -1,0 +1,11 @@
+pub mod StepLaws
+pub mod PathLaws
+pub mod TrackLaws
+pub mod SpreadLaws
+pub mod WantedLaws
+pub mod WayLaws
+pub mod JoinLaws
+pub mod DecodedLaws
+pub mod PartialLaws
+pub mod ClearLaws
+pub mod MarkLaws

@@ -1,0 +1,4 @@
+pub mod Wanted
+pub mod Heard
+pub mod Passes
+pub mod Partial

@@ -1,0 +1,198 @@
+/* Holds the proved search and mark, and the two yardsticks in Rust, against brute force over all trains of at most 12
+ * bits and against reference.c on long ones; then tries calls that must be refused.
+ *
+ *     check SMALL LONG       how many small and how many long cases
+ *
+ * Train, cost, mark, words and the rest of every buffer are compared; the exit status is 1 if anything differs. */
+#include "search.h"
+#include <stdio.h>
+#include <stdlib.h>
+#include <string.h>
+
+#define SPARE 3
+
+struct decoder {
+    const char *name;
+    search_call *search;
+    mark_call *mark;
+};
+
+static const struct decoder decoders[] = {
+    {"proved", gauge_search, gauge_mark},
+    {"same shape", shape_search, shape_mark},
+    {"ordinary", ordinary_search, ordinary_mark},
+};
+
+static unsigned differences, searches, marks;
+
+static void expect(int holds, const char *who, const char *what, uint32_t n)
+{
+    if (!holds && differences++ < 20)
+        printf("%s: %s differs at n = %u\n", who, what, n);
+}
+
+static int all_zero(const uint64_t *words, uint32_t count)
+{
+    while (count > 0 && words[count - 1] == 0)
+        count--;
+    return count == 0;
+}
+
+/* A search with buffers that hold random numbers before and may be longer than needed. */
+static void try_search(const struct decoder *d, uint32_t n, const uint8_t *heard, const uint8_t *want, int64_t cost)
+{
+    static uint8_t lent[2 * STEPS], train[MOST + SPARE], old_train[MOST + SPARE];
+    static uint64_t words[STEPS + SPARE], old_words[STEPS + SPARE];
+    uint32_t train_len = n + below(SPARE + 1), words_len = n + 6 + below(SPARE + 1);
+
+    for (uint32_t k = 0; k < n + SPARE; k++)
+        old_train[k] = train[k] = below(256);
+    for (uint32_t k = 0; k < n + 6 + SPARE; k++)
+        old_words[k] = words[k] = (uint64_t)below(REFUSED) << 32 | below(REFUSED);
+    memcpy(lent, heard, 2 * (n + 6));
+    expect(d->search(n, lent, 2 * (n + 6), train, train_len, words, words_len) == cost, d->name, "cost", n);
+    expect(memcmp(train, want, n) == 0, d->name, "train", n);
+    expect(all_zero(words, n + 6), d->name, "a word", n);
+    expect(memcmp(lent, heard, 2 * (n + 6)) == 0, d->name, "a heard byte", n);
+    expect(memcmp(train + n, old_train + n, SPARE) == 0, d->name, "a byte past the train", n);
+    expect(memcmp(words + n + 6, old_words + n + 6, 8 * SPARE) == 0, d->name, "a word past the needed ones", n);
+    searches++;
+}
+
+static void try_mark(const struct decoder *d, uint32_t n, const uint8_t *heard, const uint8_t *train, uint32_t want)
+{
+    static uint8_t lent[2 * STEPS], own[MOST + SPARE];
+
+    memcpy(lent, heard, 2 * (n + 6));
+    memcpy(own, train, n);
+    memset(own + n, 2, SPARE);
+    expect(d->mark(n, lent, 2 * (n + 6), own, n + below(SPARE + 1)) == want, d->name, "mark", n);
+    expect(memcmp(lent, heard, 2 * (n + 6)) == 0 && memcmp(own, train, n) == 0, d->name, "a byte lent to the mark", n);
+    marks++;
+}
+
+/* Small cases, and how many of them were difficult. */
+static unsigned tied, confirmed, at_limit, not_enough;
+
+static uint8_t *bits_of(uint32_t n, uint32_t v, uint8_t *train)
+{
+    for (uint32_t t = 0; t < n; t++)
+        train[t] = v >> t & 1;
+    return train;
+}
+
+static void count_small(uint32_t best)
+{
+    uint32_t equals = brute_equals(best);
+    int64_t margin = brute_margin(best);
+    tied += equals > 0;
+    confirmed += margin > 0;
+    at_limit += margin == 0;
+    not_enough += equals == 0 && margin <= 0;
+}
+
+static void small_case(uint32_t number)
+{
+    uint8_t heard[2 * (SMALL + 6)], train[SMALL], found[SMALL];
+    uint32_t n = number % (SMALL + 1);
+    random_train(n, train);
+    some_heard(n, train, heard);
+    uint32_t best = brute_search(n, heard), near = best ^ (n > 0 ? 1u << below(n) : 0);
+    uint32_t tried[] = {best, near, below(1u << n), below(1u << n)};
+    count_small(best);
+    expect(reference_search(n, heard, found) == brute_cost(best), "reference", "cost", n);
+    expect(memcmp(found, bits_of(n, best, train), n) == 0, "reference", "train", n);
+    for (size_t d = 0; d < COUNT(decoders); d++)
+        try_search(&decoders[d], n, heard, train, brute_cost(best));
+    for (size_t k = 0; k < COUNT(tried); k++) {
+        uint32_t mark = brute_margin(tried[k]) > 0;
+        expect(reference_mark(n, heard, bits_of(n, tried[k], train)) == mark, "reference", "mark", n);
+        for (size_t d = 0; d < COUNT(decoders); d++)
+            try_mark(&decoders[d], n, heard, train, mark);
+    }
+}
+
+/* Long cases: every second one as a receiver hears it at rate 3/4, from clean to hopeless. */
+static unsigned long_right, long_confirmed;
+
+static uint32_t long_length(uint32_t number)
+{
+    static const uint32_t some[] = {72, 432, 3456, 3471, MOST};
+    return number % 2 ? some[below(COUNT(some))] : 72 + below(number % 8 ? 1000 : MOST - 71);
+}
+
+static void long_case(uint32_t number)
+{
+    static uint8_t sent[MOST], heard[2 * STEPS], train[MOST], near[MOST];
+    const uint8_t *tried[] = {train, sent, near};
+    uint32_t n = long_length(number / 2);
+    random_train(n, sent);
+    some_heard(n, sent, heard);
+    if (number % 2) {
+        hear(n, sent, 24, below(20), 80, heard);
+        drop(n, below(n - 71), "111001", heard);
+    }
+    int64_t cost = reference_search(n, heard, train);
+    memcpy(near, train, n);
+    near[below(n)] ^= 1;
+    long_right += memcmp(train, sent, n) == 0;
+    long_confirmed += reference_mark(n, heard, train);
+    for (size_t d = 0; d < COUNT(decoders); d++)
+        try_search(&decoders[d], n, heard, train, cost);
+    for (size_t k = 0; k < COUNT(tried); k++) {
+        uint32_t mark = reference_mark(n, heard, tried[k]);
+        for (size_t d = 0; d < COUNT(decoders); d++)
+            try_mark(&decoders[d], n, heard, tried[k], mark);
+    }
+}
+
+/* Calls with one thing wrong: refused, and nothing changed. */
+static void misuse(const struct decoder *d)
+{
+    static const uint32_t wrong[][4] = { /* n and the three lengths */
+        {8, 27, 8, 14}, {8, 29, 8, 14}, {8, 0, 8, 14}, {8, 28, 7, 14}, {8, 28, 0, 14}, {8, 28, 8, 13}, {8, 28, 8, 0},
+        {0, 11, 4, 10}, {0, 12, 4, 5}, {MOST, 2 * STEPS - 1, MOST, STEPS}, {MOST, 2 * STEPS, MOST - 1, STEPS},
+        {MOST, 2 * STEPS, MOST, STEPS - 1}, {MOST + 1, 2 * STEPS + 2, MOST + 1, STEPS + 1}, {1u << 31, 12, 8, 14},
+        {0x7fffffff, 10, 8, 14}, {0x7ffffffa, 0, 8, 14}, {0xfffffffa, 0, 8, 14}, {0xffffffff, 10, 8, 14},
+    };
+    static uint8_t heard[2 * STEPS + 2], train[MOST + 1], ones[8 * (STEPS + 1)];
+    static uint64_t words[STEPS + 1];
+
+    memset(heard, 130, sizeof heard);
+    memset(train, 1, sizeof train);
+    memset(words, 1, sizeof words);
+    memset(ones, 1, sizeof ones);
+    for (size_t k = 0; k < COUNT(wrong); k++) {
+        const uint32_t *w = wrong[k], n = w[0];
+        int words_alone = n <= MOST && w[1] == 2 * (n + 6) && w[2] >= n;
+        expect(d->search(n, heard, w[1], train, w[2], words, w[3]) == REFUSED, d->name, "a refusal", n);
+        expect((d->mark(n, heard, w[1], train, w[2]) == REFUSED) != words_alone, d->name, "a refusal of the mark", n);
+        expect(memcmp(train, ones, sizeof train) == 0, d->name, "a byte after a refusal", n);
+        expect(memcmp(words, ones, sizeof words) == 0, d->name, "a word after a refusal", n);
+    }
+    for (uint32_t k = 0; k < 9; k++) { /* no bit at place k of eight: refused, unless that is past the train */
+        train[k] = k % 2 ? 2 : 255;
+        expect((d->mark(8, heard, 28, train, 9) == REFUSED) == (k < 8), d->name, "a refusal of the mark", 8);
+        train[k] = 1;
+    }
+}
+
+int main(int argc, char **argv)
+{
+    uint32_t small = argc == 3 ? strtoul(argv[1], NULL, 10) : 0, large = argc == 3 ? strtoul(argv[2], NULL, 10) : 0;
+
+    seed(3);
+    for (uint32_t k = 0; k < small; k++)
+        small_case(k);
+    printf("%u small cases against brute force: %u have equals, %u are confirmed, %u are at the limit, %u are the only "
+           "least train and still not confirmed\n", small, tied, confirmed, at_limit, not_enough);
+    for (uint32_t k = 0; k < large; k++)
+        long_case(k);
+    printf("%u long cases against the reference: %u come back as sent, %u are confirmed\n", large, long_right,
+           long_confirmed);
+    for (size_t d = 0; d < COUNT(decoders); d++)
+        misuse(&decoders[d]);
+    printf("%u searches, %u marks and calls to be refused, by three decoders: %u differences\n", searches, marks,
+           differences);
+    return differences != 0;
+}
