@@ -97,8 +97,8 @@ static void small_case(uint32_t number)
     uint32_t n = number % (SMALL + 1);
     random_train(n, train);
     some_heard(n, train, heard);
-    uint32_t best = brute_search(n, heard), near = best ^ (n > 0 ? 1u << below(n) : 0);
-    uint32_t tried[] = {best, near, below(1u << n), below(1u << n)};
+    uint32_t best = brute_search(n, heard), near = best ^ (n > 0 ? 1u << below(n) : 0), any = below(1u << n);
+    uint32_t tried[] = {best, near, any};
     count_small(best);
     expect(reference_search(n, heard, found) == brute_cost(best), "reference", "cost", n);
     expect(memcmp(found, bits_of(n, best, train), n) == 0, "reference", "train", n);

@@ -81,8 +81,9 @@ void some_heard(uint32_t n, const uint8_t *sent, uint8_t *heard)
     static const char *kept[] = {"1", "111001", "111111111011111101"};
     static const int levels[] = {1, 1, 1, 2, 4, 24, 80}, noises[] = {0, 1, 1, 2, 9, 40};
     uint32_t kind = below(14), lost = below(4), size = 2 * (n + 6);
+    uint32_t level = below(COUNT(levels)), noise = below(COUNT(noises)), a = below(n + 1), rate = below(COUNT(kept));
 
-    hear(n, sent, levels[below(COUNT(levels))], noises[below(COUNT(noises))], below(2) ? 80 : 127, heard);
+    hear(n, sent, levels[level], noises[noise], kind % 2 ? 80 : 127, heard);
     for (uint32_t k = 0; k < size; k++)
         switch (kind) {
         case 0: heard[k] = 127 + below(3); break;             /* -1, 0, 1: ties */
@@ -96,7 +97,7 @@ void some_heard(uint32_t n, const uint8_t *sent, uint8_t *heard)
     if (kind == 7)
         late(n, sent, heard);
     if (lost == 1)
-        drop(n, below(n + 1), kept[below(COUNT(kept))], heard);
+        drop(n, a, kept[rate], heard);
     for (uint32_t k = 0; k < size && lost == 2; k++)
         heard[k] = below(3) ? heard[k] : 0;
     for (uint32_t k = below(size), end = k + below(size - k); k < end && lost == 3; k++)

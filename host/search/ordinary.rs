@@ -1,4 +1,5 @@
-//! An ordinary Viterbi decoder, without proofs: a loop over the 64 states, their two predecessors and a table of outputs.
+//! An ordinary Viterbi decoder, without proofs: a loop over the 64 states and their two predecessors, with a table of
+//! outputs. The mark is a second pass with twice the costs, and one more for a heard bit that agrees with the train's.
 //!
 //! A register is the last seven bits, the newest at 64; a state is its upper six.
 

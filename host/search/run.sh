@@ -29,7 +29,8 @@ library=${LIBRARY:-target/staticlib/libgauge.a}
 if [ -z "${LIBRARY:-}" ]; then
     rt staticlib gauge > "$work/log" 2>&1 || { tail -n 20 "$work/log"; exit 1; }
 fi
-${RUSTC:-rustc} ${RUSTFLAGS:-} -C opt-level=3 --crate-type staticlib -o "$work/libyardsticks.a" host/search/yardsticks.rs
+rustc="${RUSTC:-rustc} ${RUSTFLAGS:-} -C opt-level=3"
+$rustc --crate-type staticlib -o "$work/libyardsticks.a" host/search/yardsticks.rs
 
 shared=(host/search/hearing.c host/search/reference.c "$library" "$work/libyardsticks.a")
 cc="${CC:-cc} -O2 -Wall ${CFLAGS:-}"
@@ -64,16 +65,17 @@ paste -d ' ' "$work/counts" "$work/times" | awk '
     BEGIN {
         name["proved"] = "proved"; name["shape"] = "same shape in Rust"
         name["ordinary"] = "ordinary Rust"; name["osmo"] = "osmo_conv_decode"
-        print "\nN = 3456, rate 3/4     instructions per step     ours over theirs     ns per step       ours over theirs"
-        print "                       search    mark    both      search    both     search    both      search    both"
+        print "\nN = 3456, rate 3/4    instructions per step   ours over theirs       ns per step   ours over theirs"
+        print "                       search    mark    both     search    both     search    both     search    both"
     }
     function over(ours, theirs) { return theirs > 0 ? sprintf("%.2f", ours / theirs) : "-" }
     function one(x) { return x > 0 ? sprintf("%.1f", x) : "-" }
     {
         search = $2 / 3462; both = $3 / 3462
         if (NR == 1) { our_search = search; our_both = both; our_time = $5; our_times = $6 }
-        printf "%-20s %8s %7s %7s %11s %7s %10s %7s %11s %7s\n", name[$1], one(search), one(both - search), one(both),
-            over(our_search, search), over(our_both, both), one($5), one($6), over(our_time, $5), over(our_times, $6)
+        printf "%-20s %8s %7s %7s %10s %7s %10s %7s %10s %7s\n",
+            name[$1], one(search), one(both - search), one(both), over(our_search, search), over(our_both, both),
+            one($5), one($6), over(our_time, $5), over(our_times, $6)
     }
     END {
         mark = our_both - our_search

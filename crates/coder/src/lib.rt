@@ -42,14 +42,16 @@ fn shifted_from(s: u32) -> u32
     (2 * s + output_of(s)) % 128
 }
 
-fn register_after(register: u32, bit: u32) -> u32
+// The seven-bit register when one more input has come.
+pub fn register_after(register: u32, bit: u32) -> u32
     requires { ⌜ (register < 128) × (bit < 2) ⌝ }
     ensures { λ r. ⌜ (r ≡ entered register bit) × (r < 128) ⌝ }
 {
     register / 2 + 64 * bit
 }
 
-fn parity_of(register: u32, taps: u32) -> u8
+// Whether the count of ones of the register under the taps is odd.
+pub fn parity_of(register: u32, taps: u32) -> u8
     ensures { λ r. ⌜ r ≡ parity register taps ⌝ }
 {
     (u32::count_ones(register & taps) % 2) as u8

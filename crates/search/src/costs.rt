@@ -6,7 +6,7 @@ ghost use Rattle.laws.specs.Lists.{choose};
 ghost use Rattle.search.specs.Bytes.{byteCost, byteHeard, agreeing, Costs};
 use crate::step::Pair;
 
-fn wide(byte: u8) -> u32
+pub fn wide(byte: u8) -> u32
     ensures { λ r. ⌜ (r ≡ byte) × (r < 256) ⌝ }
 {
     byte as u32
@@ -40,7 +40,7 @@ pub fn pair_of(x: u8, y: u8) -> Pair
 }
 
 // In the mark's pass a bit costs twice as much, and one more where it was heard and agrees with the train's own.
-fn agreeing_of(cost: u32, byte: u8, bit: u32, own: u32) -> u32
+fn agreeing_of(cost: u32, byte: u8, bit: u8, own: u8) -> u32
     requires { ⌜ cost ≤ 127 ⌝ }
     ensures { λ r. ⌜ (r ≡ 2 * cost + choose (eqb bit own) (byteHeard byte) 0) × (r ≤ 255) ⌝ }
 {
@@ -50,7 +50,7 @@ fn agreeing_of(cost: u32, byte: u8, bit: u32, own: u32) -> u32
     if bit == own { 2 * cost + 1 } else { 2 * cost }
 }
 
-pub fn own_pair(x: u8, y: u8, own_x: u32, own_y: u32) -> Pair
+pub fn own_pair(x: u8, y: u8, own_x: u8, own_y: u8) -> Pair
     ensures { λ r. ⌜ Costs (agreeing x «own_x») (agreeing y «own_y») (r .x0) (r .x1) (r .y0) (r .y1) ⌝ }
 {
     Pair {

@@ -11,15 +11,18 @@ ghost use lib.Dec.{ltb};
 ghost use lib.ListN.{length, getD, take};
 ghost use Rattle.laws.specs.Lists.{choose, filled};
 ghost use Rattle.laws.specs.Packing.{packed};
-ghost use Rattle.coder.specs.Register.{entered, parity};
 ghost use Rattle.trellis.specs.Heard.{branch};
 ghost use Rattle.trellis.specs.Passes.{best, choice};
-ghost use Rattle.search.specs.Stored.{start, above};
+ghost use Rattle.search.specs.Stored.{start};
 ghost use Rattle.coder.specs.Train.{Train};
 ghost use Rattle.search.specs.Bytes.{costOf};
 ghost use Rattle.search.specs.Promises.{Searched, Marked};
+use coder::parity_of;
+use coder::register_after;
 use costs::own_pair;
 use costs::pair_of;
+use costs::wide;
+use step::is_above;
 use step::masks_of;
 use step::started;
 use step::step;
@@ -31,8 +34,6 @@ use words::word_of;
 const X_TAPS: u32 = 0o133;
 
 const Y_TAPS: u32 = 0o171;
-
-const HALF: u32 = 2147483648;
 
 // The first pass: a word for each step, and the cost of the best way into state 0.
 fn forward(n: usize, heard: &[u8], words: &mut [u64]) -> u32
@@ -65,42 +66,12 @@ pub fn search(n: usize, heard: &[u8], train: &mut [u8], words: &mut [u64]) -> u3
     cost
 }
 
-fn wide(bit: u8) -> u32
-    ensures { λ r. ⌜ r ≡ bit ⌝ }
-{
-    bit as u32
-}
-
 // Input t of the encoder: a bit of the train, and behind it the tail's zeros.
 fn input_of(n: usize, train: &[u8], t: usize) -> u32
     requires { ⌜ n ≤ length (now train) ⌝ }
     ensures { λ r. ⌜ r ≡ choose (ltb t n) (getD (now (train .entry)) t 0) 0 ⌝ }
 {
     if t < n { wide(train[t]) } else { 0 }
-}
-
-fn register_after(register: u32, bit: u32) -> u32
-    requires { ⌜ (register < 128) × (bit < 2) ⌝ }
-    ensures { λ r. ⌜ (r ≡ entered register bit) × (r < 128) ⌝ }
-{
-    register / 2 + 64 * bit
-}
-
-fn parity_of(register: u32, taps: u32) -> u32
-    ensures { λ r. ⌜ r ≡ parity register taps ⌝ }
-{
-    u32::count_ones(register & taps) % 2
-}
-
-// Whether the way with the other oldest bit lies strictly above the way with this one.
-fn is_above(gap: u32, oldest: u32) -> bool
-    ensures { λ r. ⌜ r ≡ above gap oldest ⌝ }
-{
-    if oldest == 0 {
-        0 < gap && gap < HALF
-    } else {
-        HALF <= gap
-    }
 }
 
 // Whether the train is confirmed: a second pass, with one more for each heard bit that agrees with the train's own, in which the way

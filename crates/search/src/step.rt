@@ -8,12 +8,12 @@ ghost use lib.ListN.{length, getD};
 ghost use Rattle.laws.specs.Lists.{choose};
 ghost use Rattle.laws.specs.Packing.{packed};
 ghost use Rattle.coder.specs.Register.{maskX, maskY};
-ghost use Rattle.search.specs.Stored.{width, start, wrapped, lesser, top, paired, Crossed, Small, maskAt, Masks, Stored, Turned};
+ghost use Rattle.search.specs.Stored.{width, start, wrapped, lesser, above, paired, Crossed, Small, maskAt, Masks, Stored, Turned};
 
 // The cost at which a state other than 0 is started in: more than six steps can cost in either pass.
 const START: u32 = 4096;
 
-const HALF: u32 = 2147483648;
+pub const HALF: u32 = 2147483648;
 
 // What the two coded bits of a step cost, each being 0 and 1.
 pub struct Pair {
@@ -53,6 +53,17 @@ fn better(cost: u32, gap: u32) -> u32
     ensures { λ r. ⌜ r ≡ lesser cost gap ⌝ }
 {
     if gap < HALF { cost } else { plus(cost, gap) }
+}
+
+// Whether the way with the other oldest bit lies strictly above the way with this one.
+pub fn is_above(gap: u32, oldest: u32) -> bool
+    ensures { λ r. ⌜ r ≡ above gap oldest ⌝ }
+{
+    if oldest == 0 {
+        0 < gap && gap < HALF
+    } else {
+        HALF <= gap
+    }
 }
 
 // The ways from two states, over the branch costs a (from the even state into the low one, from the odd into the high) and b.

@@ -7,8 +7,7 @@ ghost use Rattle.laws.specs.Lists.{choose, filled};
 ghost use Rattle.laws.specs.Packing.{packed};
 ghost use Rattle.search.specs.Stored.{top, Weights};
 ghost use Rattle.search.specs.Followed.{bitIn, followed};
-
-const HALF: u32 = 2147483648;
+use crate::step::HALF;
 
 // The weights of sixteen bits.
 pub fn weights() -> [u32; 16]

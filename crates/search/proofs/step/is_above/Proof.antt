@@ -1,10 +1,10 @@
--- `search::is_above` tells from the gap whether the other way lies strictly above.
+-- `search::step::is_above` tells from the gap whether the other way lies strictly above.
 -- Assumes nothing.
 use mathlib.Core.Path.{refl}
 use borrow.Author.Tests.{lt-ltb, le-ltb, eq-eqb, ne-eqb}
 use Rattle.search.specs.Stored.{above}
-use Rattle.search.proofs.is_above.Statement.{statement}
-use Rattle.search.proofs.is_above.Tie as tie
+use Rattle.search.proofs.step.is_above.Statement.{statement}
+use Rattle.search.proofs.step.is_above.Tie as tie
 
 returns : tie.Need-returns
 unfolding above
