@@ -3,7 +3,7 @@
 const X_TAPS: u32 = 0o133;
 const Y_TAPS: u32 = 0o171;
 const START: u32 = 4096;
-const TOP: u32 = 1 << 31;
+const HALF: u32 = 1 << 31;
 
 struct Pair {
     x0: u32,
@@ -17,7 +17,7 @@ struct Turn {
     gaps: [u32; 64],
 }
 
-struct Cross {
+struct Crossing {
     low: u32,
     low_gap: u32,
     high: u32,
@@ -45,7 +45,7 @@ fn masks_of(taps: u32) -> [u32; 32] {
     masks
 }
 
-fn start() -> [u32; 64] {
+fn started() -> [u32; 64] {
     let mut costs = [START; 64];
     costs[0] = 0;
     costs
@@ -56,25 +56,25 @@ fn masked(c0: u32, c1: u32, mask: u32) -> u32 {
 }
 
 fn better(cost: u32, gap: u32) -> u32 {
-    if gap < TOP {
+    if gap < HALF {
         cost
     } else {
         plus(cost, gap)
     }
 }
 
-fn cross(even: u32, odd: u32, a: u32, b: u32) -> Cross {
+fn cross(even: u32, odd: u32, a: u32, b: u32) -> Crossing {
     let low = plus(even, a);
     let low_gap = minus(plus(odd, b), low);
     let high = plus(even, b);
     let high_gap = minus(plus(odd, a), high);
-    Cross { low: better(low, low_gap), low_gap, high: better(high, high_gap), high_gap }
+    Crossing { low: better(low, low_gap), low_gap, high: better(high, high_gap), high_gap }
 }
 
 fn step(old: [u32; 64], xs: &[u32; 32], ys: &[u32; 32], pair: Pair) -> Turn {
     let mut costs = [0; 64];
     let mut gaps = [0; 64];
-    let all = plus(plus(pair.x0, pair.x1), plus(pair.y0, pair.y1));
+    let all = pair.x0 + pair.x1 + pair.y0 + pair.y1;
     for j in 0..32 {
         let a = plus(masked(pair.x0, pair.x1, xs[j]), masked(pair.y0, pair.y1, ys[j]));
         let c = cross(old[2 * j], old[2 * j + 1], a, minus(all, a));
@@ -86,7 +86,7 @@ fn step(old: [u32; 64], xs: &[u32; 32], ys: &[u32; 32], pair: Pair) -> Turn {
     Turn { costs, gaps }
 }
 
-fn weights() -> [u16; 16] {
+fn weights() -> [u32; 16] {
     let mut w = [1; 16];
     for k in 1..16 {
         w[k] = 2 * w[k - 1];
@@ -94,15 +94,15 @@ fn weights() -> [u16; 16] {
     w
 }
 
-fn put(sum: u16, gap: u32, weight: u16) -> u16 {
-    if gap < TOP {
+fn put(sum: u32, gap: u32, weight: u32) -> u32 {
+    if gap < HALF {
         sum
     } else {
         sum + weight
     }
 }
 
-fn word_of(gaps: &[u32; 64], w: &[u16; 16]) -> u64 {
+fn word_of(gaps: &[u32; 64], w: &[u32; 16]) -> u64 {
     let (mut g0, mut g1, mut g2, mut g3) = (0, 0, 0, 0);
     for k in 0..16 {
         g0 = put(g0, gaps[k], w[k]);
@@ -137,7 +137,7 @@ fn forward(n: usize, heard: &[u8], words: &mut [u64]) -> u32 {
     let xs = masks_of(X_TAPS);
     let ys = masks_of(Y_TAPS);
     let w = weights();
-    let mut costs = start();
+    let mut costs = started();
     for t in 0..n + 6 {
         let turn = step(costs, &xs, &ys, pair_of(heard[2 * t], heard[2 * t + 1]));
         costs = turn.costs;
@@ -146,7 +146,7 @@ fn forward(n: usize, heard: &[u8], words: &mut [u64]) -> u32 {
     costs[0]
 }
 
-fn back(n: usize, train: &mut [u8], words: &mut [u64]) {
+fn follow(n: usize, train: &mut [u8], words: &mut [u64]) {
     let mut s = 0;
     for t in (0..n + 6).rev() {
         let d = (words[t] >> s) % 2;
@@ -160,7 +160,7 @@ fn back(n: usize, train: &mut [u8], words: &mut [u64]) {
 
 pub fn search(n: usize, heard: &[u8], train: &mut [u8], words: &mut [u64]) -> u32 {
     let cost = forward(n, heard, words);
-    back(n, train, words);
+    follow(n, train, words);
     cost
 }
 
@@ -181,18 +181,18 @@ fn own_pair(x: u8, y: u8, own_x: u32, own_y: u32) -> Pair {
     }
 }
 
-fn clear(gap: u32, oldest: u32) -> bool {
+fn is_above(gap: u32, oldest: u32) -> bool {
     if oldest == 0 {
-        0 < gap && gap < TOP
+        0 < gap && gap < HALF
     } else {
-        TOP <= gap
+        HALF <= gap
     }
 }
 
 pub fn mark(n: usize, heard: &[u8], train: &[u8]) -> bool {
     let xs = masks_of(X_TAPS);
     let ys = masks_of(Y_TAPS);
-    let mut costs = start();
+    let mut costs = started();
     let mut register = 0;
     for t in 0..n + 6 {
         let bit = if t < n { train[t] as u32 } else { 0 };
@@ -200,7 +200,7 @@ pub fn mark(n: usize, heard: &[u8], train: &[u8]) -> bool {
         let pair = own_pair(heard[2 * t], heard[2 * t + 1], coded(register, X_TAPS), coded(register, Y_TAPS));
         let turn = step(costs, &xs, &ys, pair);
         costs = turn.costs;
-        if !clear(turn.gaps[(register / 2) as usize], register % 2) {
+        if !is_above(turn.gaps[(register / 2) as usize], register % 2) {
             return false;
         }
     }

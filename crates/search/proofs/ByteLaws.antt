@@ -61,11 +61,6 @@ pub heard-some : (byte : ℕ) → byte ≢ 0 → byteHeard byte ≡ 1
 unfolding byteHeard
 heard-some byte h = rw (ne-eqb byte 0 h) refl
 
--- nothing is added for a bit that was not heard
-pub zero-either : (x : Bool) (cost : ℕ) → cost ≡ cost + choose x 0 0
-zero-either true cost = omega arith
-zero-either false cost = omega arith
-
 -- where the two coded bits of a step cost as x and y say, a register costs what its coded bits do
 pub paired-costs : (x y : ℕ → ℕ) (x0 x1 y0 y1 : ℕ) → Costs x y x0 x1 y0 y1 → (r : ℕ)
     → paired x0 x1 y0 y1 r ≡ x (parity r maskX) + y (parity r maskY)

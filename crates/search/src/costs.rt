@@ -12,7 +12,7 @@ pub fn wide(byte: u8) -> u32
     byte as u32
 }
 
-// What a bit that is 0 costs. A byte of 0, not heard, is below 128.
+// What a bit that is 0 costs; a byte of 0, not heard, is below 128.
 fn cost_of_0(byte: u8) -> u32
     ensures { λ r. ⌜ (r ≡ byteCost byte 0) × (r ≤ 127) ⌝ }
 {
@@ -39,15 +39,23 @@ pub fn pair_of(x: u8, y: u8) -> Pair
     }
 }
 
+// 1 for a bit that was heard.
+fn heard_of(byte: u8) -> u32
+    ensures { λ r. ⌜ (r ≡ byteHeard byte) × (r ≤ 1) ⌝ }
+{
+    if byte == 0 { 0 } else { 1 }
+}
+
 // In the mark's pass a bit costs twice as much, and one more where it was heard and agrees with the train's own.
 fn agreeing_of(cost: u32, byte: u8, bit: u8, own: u8) -> u32
     requires { ⌜ cost ≤ 127 ⌝ }
     ensures { λ r. ⌜ (r ≡ 2 * cost + choose (eqb bit own) (byteHeard byte) 0) × (r ≤ 255) ⌝ }
 {
-    if byte == 0 {
-        return 2 * cost;
+    if bit == own {
+        2 * cost + heard_of(byte)
+    } else {
+        2 * cost
     }
-    if bit == own { 2 * cost + 1 } else { 2 * cost }
 }
 
 pub fn own_pair(x: u8, y: u8, own_x: u8, own_y: u8) -> Pair

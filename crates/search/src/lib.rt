@@ -2,6 +2,7 @@
 // confirmed. A coded bit comes as a soft byte counted from -128, or 0 where it was not heard. It refuses nothing: its callers have
 // tested what they lend.
 mod costs;
+mod forward;
 mod step;
 mod words;
 
@@ -9,52 +10,21 @@ ghost use mathlib.Core.Path.{_≡_};
 ghost use Prim.Native.Nat.{_+_, _*_, _<_, _≤_};
 ghost use lib.Dec.{ltb};
 ghost use lib.ListN.{length, getD, take};
-ghost use Rattle.laws.specs.Lists.{choose, filled};
-ghost use Rattle.laws.specs.Packing.{packed};
-ghost use Rattle.trellis.specs.Heard.{branch};
-ghost use Rattle.trellis.specs.Passes.{best, choice};
-ghost use Rattle.search.specs.Stored.{start};
+ghost use Rattle.laws.specs.Lists.{choose};
 ghost use Rattle.coder.specs.Train.{Train};
-ghost use Rattle.search.specs.Bytes.{costOf};
 ghost use Rattle.search.specs.Promises.{Searched, Marked};
 use coder::parity_of;
 use coder::register_after;
 use costs::own_pair;
-use costs::pair_of;
 use costs::wide;
+use forward::forward;
+use step::X_TAPS;
+use step::Y_TAPS;
 use step::is_above;
 use step::masks_of;
 use step::started;
 use step::step;
 use words::follow;
-use words::weights;
-use words::word_of;
-
-// The polynomials as masks of the seven-bit register, whose newest bit is the highest.
-const X_TAPS: u32 = 0o133;
-
-const Y_TAPS: u32 = 0o171;
-
-// The first pass: a word for each step, and the cost of the best way into state 0.
-fn forward(n: usize, heard: &[u8], words: &mut [u64]) -> u32
-    requires { ⌜ (n ≤ 3472) × (2 * (n + 6) ≤ length (now heard)) × (n + 6 ≤ length (now words)) ⌝ }
-    ensures cost { λ r. ⌜ r ≡ best (branch (costOf (now (heard .entry)))) start (n + 6) 0 ⌝ }
-    ensures decided { λ _. ⌜ now (words .exit) ≡ filled (n + 6) (λ t. packed 64 (choice (branch (costOf (now (heard .entry)))) start t)) (now (words .entry)) ⌝ }
-{
-    let xs = masks_of(X_TAPS);
-    let ys = masks_of(Y_TAPS);
-    let w = weights();
-    let mut costs = started();
-    let mut t = 0usize;
-    while t < n + 6 {
-        let turn = step(costs, &xs, &ys, pair_of(heard[2 * t], heard[2 * t + 1]));
-        let gaps = turn.gaps;
-        words[t] = word_of(&gaps, &w);
-        costs = turn.costs;
-        t += 1;
-    }
-    costs[0]
-}
 
 // Of all trains of n bits, the one of least cost; of equals, the one with 0 at the last place where the two differ. Its cost.
 pub fn search(n: usize, heard: &[u8], train: &mut [u8], words: &mut [u64]) -> u32

@@ -110,7 +110,7 @@ loop-again c =
     (stepped .step .ensures) (sym (c .before .before .is-above .ensures) ∙ not-false _ (c .before .if1 .left))
 
 returns-2 : tie.Need-returns-2 Inv-loop μ-loop
-returns-2 c = marked-so _ _ _ _ _ _ _ _ (c .before .loop .inv) (c .loop-test .left)
+returns-2 c = marked-so _ _ _ _ _ _ _ _ (c .before .loop .inv) (omega arith)
 
 pub mark-spec : {M : Type 1} → statement M
 mark-spec =

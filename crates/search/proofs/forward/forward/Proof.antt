@@ -1,10 +1,10 @@
--- `search::forward` is the first pass. Each turn is one step (ForwardLaws).
+-- `search::forward::forward` is the first pass. Each turn is one step (ForwardLaws).
 -- Assumes nothing.
 use Prim.Native.Nat.{_+_, _-_}
 use native.Mathlib.Omega.{arith}
 use Rattle.search.proofs.ForwardLaws.{Forward, forward-start, forward-again, forward-cost, forward-words}
-use Rattle.search.proofs.forward.Statement.{statement}
-use Rattle.search.proofs.forward.Tie as tie
+use Rattle.search.proofs.forward.forward.Statement.{statement}
+use Rattle.search.proofs.forward.forward.Tie as tie
 
 abbrev Inv-loop : tie.InvT-loop
 Inv-loop n heard words₀ xs ys w costs₀ t₀ words costs t = Forward n heard words₀ xs ys w words costs t
@@ -84,8 +84,8 @@ same-length c = omega arith
 
 returns : tie.Need-returns Inv-loop μ-loop
 returns c = (
-  forward-cost _ _ _ _ _ _ _ _ _ (omega arith) (c .before .loop .inv) (c .loop-test .left),
-  forward-words _ _ _ _ _ _ _ _ _ (c .before .loop .inv) (c .loop-test .left),
+  forward-cost _ _ _ _ _ _ _ _ _ (omega arith) (c .before .loop .inv) (omega arith),
+  forward-words _ _ _ _ _ _ _ _ _ (c .before .loop .inv) (omega arith),
 )
 
 pub forward-spec : {M : Type 1} → statement M
