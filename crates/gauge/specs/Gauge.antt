@@ -5,7 +5,7 @@
 --   Marks     the mark's promise, as 1 or 0, where the lengths are fit and the train is bits; else the answer is `unfit`
 -- Assumes nothing.
 use mathlib.Core.Path.{_≡_}
-use mathlib.Core.Bool.{Bool, true, false}
+use mathlib.Core.Bool.{true, false}
 use mathlib.Core.Logic.{_⊎_}
 use mathlib.Core.List.{List}
 use Prim.Native.Nat.{ℕ, _+_, _*_, _≤_}

@@ -1,6 +1,6 @@
 -- Laws of packed bits: their bound, one bit read, two parts joined.
 -- Assumes nothing.
-use mathlib.Core.Path.{_≡_, refl, sym, ap, ap₂, _∙_}
+use mathlib.Core.Path.{_≡_, refl, ap, ap₂}
 use Prim.Native.Nat.{ℕ, zero, suc, _+_, _*_, _/_, _%_, _^_, _<_}
 use native.Mathlib.Nat.{not-suc-le-zero, add-zero, add-suc, pow-suc, pow-succ', mul-add, mul-assoc, mul-left-comm, div-div-eq-div-mul}
 use native.Mathlib.Omega.{arith}

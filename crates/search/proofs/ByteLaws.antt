@@ -1,22 +1,22 @@
 -- What a byte costs, case by case, and that a step costs as its bytes say.
 -- Assumes nothing.
-use mathlib.Core.Path.{_≡_, refl, sym, ap₂, _∙_}
+use mathlib.Core.Path.{_≡_, refl, ap₂}
 use mathlib.Core.Bool.{Bool, true, false}
 use mathlib.Core.Logic.{_≢_}
 use mathlib.Core.List.{List}
-use Prim.Native.Nat.{ℕ, zero, suc, _+_, _-_, _*_, _%_, _≤_, _<_}
+use Prim.Native.Nat.{ℕ, zero, suc, _+_, _-_, _*_, _≤_, _<_}
 use native.Mathlib.Omega.{arith}
 use lib.Dec.{eqb}
 use lib.ListN.{getD}
 use borrow.Author.Tests.{eqb-true, eqb-false, ne-eqb}
 use Rattle.laws.specs.Lists.{choose}
-use Rattle.coder.specs.Encoder.{tailed, coded}
+use Rattle.coder.specs.Encoder.{tailed}
 use Rattle.coder.specs.Register.{register, parity, maskX, maskY}
 use Rattle.coder.specs.Train.{Train}
 use Rattle.coder.proofs.EncoderLaws.{coded-X, coded-Y}
 use Rattle.coder.proofs.TrainLaws.{tailed-bits}
 use Rattle.trellis.specs.Heard.{branch, markCost}
-use Rattle.search.specs.Stored.{paired, Small}
+use Rattle.search.specs.Stored.{paired}
 use Rattle.search.specs.Bytes.{byteCost, byteHeard, agreeing, Costs, costOf, heardOf}
 
 pub cost-0 : (byte : ℕ) → byteCost byte 0 ≡ byte - 128

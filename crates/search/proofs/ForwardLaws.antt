@@ -1,14 +1,13 @@
 -- The first pass: after t steps the stored costs are the best ones and the words hold the choices.
 -- Assumes nothing.
-use mathlib.Core.Path.{_≡_, refl, sym, ap, _∙_}
+use mathlib.Core.Path.{_≡_, refl, sym, _∙_}
 use mathlib.Core.Bool.{Bool, true, false}
 use mathlib.Core.List.{List}
-use Prim.Native.Nat.{ℕ, suc, _+_, _-_, _*_, _%_, _≤_, _<_}
+use Prim.Native.Nat.{ℕ, _+_, _*_, _≤_, _<_}
 use native.Mathlib.Numerals.{add-one}
 use native.Mathlib.Omega.{arith}
 use lib.Dec.{eqb}
 use lib.ListN.{length, getD, set, length-set}
-use borrow.Author.Tests.{eqb-true}
 use Rattle.laws.specs.Lists.{choose, filled}
 use Rattle.laws.specs.Packing.{packed}
 use Rattle.laws.proofs.ListLaws.{filled-none, filled-put}
@@ -17,7 +16,7 @@ use Rattle.coder.specs.Register.{parity, maskX, maskY}
 use Rattle.trellis.specs.Heard.{branch}
 use Rattle.trellis.specs.Passes.{best, choice}
 use Rattle.trellis.proofs.SpreadLaws.{best-most}
-use Rattle.search.specs.Stored.{width, half, start, wrapped, top, paired, Masks, Weights, Stored, Turned}
+use Rattle.search.specs.Stored.{half, start, wrapped, top, paired, Masks, Weights, Stored, Turned}
 use Rattle.search.specs.Bytes.{byteCost, costOf, Costs}
 use Rattle.search.proofs.ByteLaws.{byte-most, branch-heard}
 use Rattle.search.proofs.TurnLaws.{turn-costs, turn-word}

@@ -1,6 +1,6 @@
 -- The second pass: after t steps the stored costs are the best ones, and the way of the train was clear so far.
 -- Assumes nothing.
-use mathlib.Core.Path.{_≡_, refl, sym, ap, ap₂, _∙_}
+use mathlib.Core.Path.{_≡_, refl, sym, ap₂, _∙_}
 use mathlib.Core.Bool.{Bool, true, false, false≢true}
 use mathlib.Core.List.{List}
 use Prim.Native.Nat.{ℕ, suc, _+_, _-_, _*_, _/_, _%_, _≤_, _<_}
@@ -19,7 +19,7 @@ use Rattle.trellis.specs.Heard.{branch, markCost, trainCost, differing}
 use Rattle.trellis.specs.Passes.{candidate, best, Clear}
 use Rattle.trellis.specs.Wanted.{Confirmed}
 use Rattle.trellis.proofs.MarkLaws.{clear-confirmed, confirmed-clear}
-use Rattle.search.specs.Stored.{half, start, wrapped, paired, above, Masks, Stored, Turned}
+use Rattle.search.specs.Stored.{start, wrapped, paired, above, Masks, Stored, Turned}
 use Rattle.search.specs.Bytes.{costOf, heardOf, agreeing, Costs}
 use Rattle.search.specs.Promises.{Marked}
 use Rattle.search.proofs.ByteLaws.{byte-most, heard-most, branch-agreeing}

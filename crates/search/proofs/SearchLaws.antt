@@ -1,11 +1,11 @@
 -- The search: the bits on the way back along the words are the train that is wanted.
 -- Assumes nothing.
-use mathlib.Core.Path.{_≡_, refl, sym, ap, ap₂, _∙_}
+use mathlib.Core.Path.{_≡_, refl, sym, ap, _∙_}
 use mathlib.Core.List.{List, _∷_}
-use Prim.Native.Nat.{ℕ, zero, suc, _+_, _-_, _*_, _/_, _%_, _^_, _≤_, _<_}
+use Prim.Native.Nat.{ℕ, zero, suc, _+_, _-_, _<_}
 use native.Mathlib.Omega.{arith}
-use lib.ListN.{getD, take, drop}
-use Rattle.laws.specs.Lists.{tabulate, filled}
+use lib.ListN.{getD, take}
+use Rattle.laws.specs.Lists.{filled}
 use Rattle.laws.specs.Packing.{packed}
 use Rattle.laws.proofs.ListLaws.{filled-at, filled-take, filled-drop, filled-over}
 use Rattle.laws.proofs.PackingLaws.{packed-bit}

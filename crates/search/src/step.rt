@@ -2,11 +2,10 @@
 // j and j + 32 cross: both come from 2 j and 2 j + 1, and since both polynomials have lags 0 and 6, one branch cost and its
 // complement serve all four.
 ghost use mathlib.Core.Path.{_≡_};
-ghost use Prim.Native.Nat.{ℕ, _+_, _-_, _*_, _<_, _≤_};
+ghost use Prim.Native.Nat.{ℕ, _+_, _-_, _*_, _<_};
 ghost use lib.Dec.{eqb};
-ghost use lib.ListN.{length, getD};
+ghost use lib.ListN.{length};
 ghost use Rattle.laws.specs.Lists.{choose};
-ghost use Rattle.laws.specs.Packing.{packed};
 ghost use Rattle.coder.specs.Register.{maskX, maskY};
 ghost use Rattle.search.specs.Stored.{width, start, wrapped, lesser, above, paired, Crossed, Small, maskAt, Masks, Stored, Turned};
 

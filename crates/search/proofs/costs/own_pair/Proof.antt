@@ -1,6 +1,5 @@
 -- `search::costs::own_pair` is what a step costs in the mark's pass.
 -- Assumes nothing.
-use mathlib.Core.Path.{_∙_}
 use native.Mathlib.Omega.{arith}
 use borrow.Author.Needs.{needs}
 use Rattle.search.specs.Bytes.{agreeing}

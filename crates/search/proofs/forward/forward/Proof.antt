@@ -73,7 +73,7 @@ loop-again : tie.Need-loop-again Inv-loop μ-loop
 loop-again c =
     let stepped = c .before .before .before .before .before in
     let top = stepped .before .before .before .before .before .before in
-    forward-again _ _ _ _ _ _ _ _ _ (stepped .step .result .gaps) _ _ _ _ _ _ (top .before .loop .inv) (top .loop-test .taken)
+    forward-again _ _ _ _ _ _ _ _ _ (stepped .step .result .gaps) _ _ _ _ _ _ (top .before .loop .inv) (omega (arith, top .loop-test .taken))
     (stepped .before .pair-of .ensures) (stepped .step .ensures) (c .before .word-of .ensures)
 
 array-read-result : tie.Need-array-read-result Inv-loop μ-loop

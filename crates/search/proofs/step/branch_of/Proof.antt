@@ -1,10 +1,6 @@
 -- `search::step::branch_of` is the cost of a register with these masks.
 -- Assumes nothing.
-use mathlib.Core.Path.{_∙_}
-use native.Mathlib.Omega.{arith}
 use borrow.Author.Needs.{needs}
-use Rattle.search.specs.Stored.{paired}
-use Rattle.coder.specs.Register.{maskX, maskY}
 use Rattle.search.proofs.StepLaws.{branch-by}
 use Rattle.search.proofs.step.branch_of.Statement.{statement}
 use Rattle.search.proofs.step.branch_of.Tie as tie
