@@ -1,7 +1,6 @@
 -- The first pass: after t steps the stored costs are the best ones and the words hold the choices.
 -- Assumes nothing.
 use mathlib.Core.Path.{_≡_, refl, sym, _∙_}
-use mathlib.Core.Bool.{Bool, true, false}
 use mathlib.Core.List.{List}
 use Prim.Native.Nat.{ℕ, _+_, _*_, _≤_, _<_}
 use native.Mathlib.Numerals.{add-one}
@@ -19,7 +18,7 @@ use Rattle.trellis.proofs.SpreadLaws.{best-most}
 use Rattle.search.specs.Stored.{half, start, wrapped, top, paired, Masks, Weights, Stored, Turned}
 use Rattle.search.specs.Bytes.{byteCost, costOf, Costs}
 use Rattle.search.proofs.ByteLaws.{byte-most, branch-heard}
-use Rattle.search.proofs.TurnLaws.{turn-costs, turn-word}
+use Rattle.search.proofs.TurnLaws.{turn-none, turn-costs, turn-word}
 
 -- the costs of the first pass
 abbrev pub first : List ℕ → ℕ → ℕ → ℕ
@@ -44,7 +43,6 @@ pub record Forward (n : ℕ) (heard words₀ xs ys w words costs : List ℕ) (t 
 
 pub forward-start : (n : ℕ) (heard words xs ys w costs : List ℕ) → n + 6 ≤ length words → ((m : ℕ) → getD heard m 0 < 256) → Masks maskX xs → Masks maskY ys → Weights w
     → Stored (λ s. choose (eqb s 0) 0 start) costs → Forward n heard words xs ys w words costs 0
-unfolding best
 forward-start n heard words xs ys w costs room bytes x-masks y-masks weights started = record {
   counted = omega arith;
   room = room;
@@ -52,14 +50,10 @@ forward-start n heard words xs ys w costs room bytes x-masks y-masks weights sta
   x-masks = x-masks;
   y-masks = y-masks;
   weights = weights;
-  held = record { all = started .all; at = λ s h. started .at s h ∙ small (eqb s 0) };
+  held = turn-none _ costs started;
   decided = sym (filled-none _ words);
   long = refl;
 }
-  where
-    small : (z : Bool) → choose z 0 start ≡ wrapped (choose z 0 start)
-    small true = refl
-    small false = refl
 
 module _ (n : ℕ) (heard words₀ xs ys w : List ℕ) where
   pub forward-again : (words costs costs′ gaps : List ℕ) (t x0 x1 y0 y1 word : ℕ)

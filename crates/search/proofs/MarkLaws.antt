@@ -23,7 +23,7 @@ use Rattle.search.specs.Stored.{start, wrapped, paired, above, Masks, St
 use Rattle.search.specs.Bytes.{costOf, heardOf, agreeing, Costs}
 use Rattle.search.specs.Promises.{Marked}
 use Rattle.search.proofs.ByteLaws.{byte-most, heard-most, branch-agreeing}
-use Rattle.search.proofs.TurnLaws.{turn-costs, turn-above}
+use Rattle.search.proofs.TurnLaws.{turn-none, turn-costs, turn-above}
 
 -- the costs of the second pass
 abbrev pub second : List ℕ → List ℕ → ℕ → ℕ → ℕ
@@ -54,7 +54,7 @@ pub record Marking (n : ℕ) (heard w xs ys costs : List ℕ) (r t : ℕ) : Type
 
 pub marking-start : (n : ℕ) (heard w xs ys costs : List ℕ) → n ≤ 3472 → ((m : ℕ) → getD heard m 0 < 256) → Train n w → Masks maskX xs → Masks maskY ys
     → Stored (λ s. choose (eqb s 0) 0 start) costs → Marking n heard w xs ys costs 0 0
-unfolding best register Clear
+unfolding register Clear
 marking-start n heard w xs ys costs most bytes train x-masks y-masks started = record {
   counted = omega arith;
   most = most;
@@ -62,15 +62,11 @@ marking-start n heard w xs ys costs most bytes train x-masks y-masks started = r
   train = train;
   x-masks = x-masks;
   y-masks = y-masks;
-  held = record { all = started .all; at = λ s h. started .at s h ∙ small (eqb s 0) };
+  held = turn-none _ costs started;
   inputs = refl;
   seven-bits = omega arith;
   clear = λ t h. absurd (omega arith);
 }
-  where
-    small : (z : Bool) → choose z 0 start ≡ wrapped (choose z 0 start)
-    small true = refl
-    small false = refl
 
 -- the train has its n bytes
 pub train-long : (n : ℕ) (train : List ℕ) → Train n (take n train) → n ≤ length train

@@ -5,7 +5,7 @@ use mathlib.Core.Bool.{Bool, true, false}
 use mathlib.Core.List.{List}
 use Prim.Native.Nat.{ℕ, zero, suc, _+_, _-_, _*_, _≤_, _<_}
 use native.Mathlib.Omega.{arith}
-use lib.Dec.{ltb, leb}
+use lib.Dec.{eqb, ltb, leb}
 use lib.ListN.{getD}
 use borrow.Author.Tests.{ltb-true, ltb-false, lt-ltb, le-ltb, le-leb, lt-leb}
 use Rattle.laws.specs.Lists.{choose}
@@ -82,6 +82,15 @@ module _ (a b x y : ℕ) (near : Near a b x y) where
       go : (z : Bool) → ltb b a ≡ z → leb half (gap x y) ≡ z
       go true e = le-leb half (gap x y) (omega (arith, gap-down (ltb-true b a e), near .not-below, ltb-true b a e))
       go false e = lt-leb half (gap x y) (omega (arith, gap-up (ltb-false b a e), near .not-above))
+
+-- before the first step
+pub turn-none : (b : ℕ → ℕ → ℕ) (costs : List ℕ) → Stored (λ s. choose (eqb s 0) 0 start) costs → Stored (λ s. wrapped (best b start 0 s)) costs
+unfolding best
+turn-none b costs started = record { all = started .all; at = λ s h. started .at s h ∙ small (eqb s 0) }
+  where
+    small : (z : Bool) → choose z 0 start ≡ wrapped (choose z 0 start)
+    small true = refl
+    small false = refl
 
 module _ (b : ℕ → ℕ → ℕ) (M : ℕ) (most : (t r : ℕ) → b t r ≤ M) (room : start + 7 * M < half) (t : ℕ) (old : List ℕ) (b′ : ℕ → ℕ)
     (same : (r : ℕ) → b′ r ≡ b t r) (held : Stored (λ s. wrapped (best b start t s)) old) where
