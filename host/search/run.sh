@@ -7,7 +7,7 @@
 # is built for x86-64 and run by an emulator, which counts the instructions, and no times are taken. Variables name the
 # tools; in brackets what they are by default where the machine is not x86-64:
 #
-#     CC, CFLAGS, LDFLAGS    cc [x86_64-linux-gnu-gcc, with Debian's folders for libosmocore-dev:amd64]
+#     CC, CFLAGS, LDFLAGS    cc [x86_64-linux-gnu-gcc]; the flags name the folders of libosmocore for x86-64, if need be
 #     RUSTC, RUSTFLAGS       rustc [--target x86_64-unknown-linux-gnu]
 #     EMULATOR               not used [qemu-x86_64, of version 8.1 or later]
 #     LIBRARY                a ready libgauge.a; without it `rt staticlib gauge` proves and makes one
@@ -20,8 +20,6 @@ emulator=
 if [ "$(uname -m)" != x86_64 ]; then
     emulator=${EMULATOR:-qemu-x86_64}
     CC=${CC:-x86_64-linux-gnu-gcc}
-    CFLAGS=${CFLAGS:--idirafter /usr/include}
-    LDFLAGS=${LDFLAGS:--L/usr/lib/x86_64-linux-gnu}
     RUSTFLAGS=${RUSTFLAGS:---target x86_64-unknown-linux-gnu}
 fi
 
@@ -82,4 +80,4 @@ paste -d ' ' "$work/counts" "$work/times" | awk '
         printf "bars: search %.0f of 400, mark %.0f of 350: %s\n", our_search, mark,
             our_search <= 400 && mark <= 350 ? "held" : "NOT HELD"
     }'
-if [ -n "$emulator" ]; then echo "times are not measured: the code ran under $emulator"; fi
+if [ -n "$emulator" ]; then echo "times are not measured: the code ran under an emulator"; fi

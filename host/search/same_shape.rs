@@ -32,15 +32,15 @@ fn minus(x: u32, y: u32) -> u32 {
     x.wrapping_sub(y)
 }
 
-fn coded(register: u32, taps: u32) -> u32 {
-    (register & taps).count_ones() % 2
+fn parity_of(register: u32, taps: u32) -> u8 {
+    ((register & taps).count_ones() % 2) as u8
 }
 
 /// All ones at each j whose register 2j has the coded bit 1.
 fn masks_of(taps: u32) -> [u32; 32] {
     let mut masks = [0; 32];
     for j in 0..32 {
-        masks[j] = minus(0, coded(2 * j as u32, taps));
+        masks[j] = minus(0, (2 * j as u32 & taps).count_ones() % 2);
     }
     masks
 }
@@ -164,20 +164,28 @@ pub fn search(n: usize, heard: &[u8], train: &mut [u8], words: &mut [u64]) -> u3
     cost
 }
 
-fn agreeing(c: u32, heard: u8, agrees: u32) -> u32 {
-    if heard == 0 {
+fn heard_of(byte: u8) -> u32 {
+    if byte == 0 {
         0
     } else {
-        2 * c + agrees
+        1
     }
 }
 
-fn own_pair(x: u8, y: u8, own_x: u32, own_y: u32) -> Pair {
+fn agreeing_of(cost: u32, byte: u8, bit: u8, own: u8) -> u32 {
+    if bit == own {
+        2 * cost + heard_of(byte)
+    } else {
+        2 * cost
+    }
+}
+
+fn own_pair(x: u8, y: u8, own_x: u8, own_y: u8) -> Pair {
     Pair {
-        x0: agreeing(cost_of_0(x), x, 1 - own_x),
-        x1: agreeing(cost_of_1(x), x, own_x),
-        y0: agreeing(cost_of_0(y), y, 1 - own_y),
-        y1: agreeing(cost_of_1(y), y, own_y),
+        x0: agreeing_of(cost_of_0(x), x, 0, own_x),
+        x1: agreeing_of(cost_of_1(x), x, 1, own_x),
+        y0: agreeing_of(cost_of_0(y), y, 0, own_y),
+        y1: agreeing_of(cost_of_1(y), y, 1, own_y),
     }
 }
 
@@ -197,7 +205,7 @@ pub fn mark(n: usize, heard: &[u8], train: &[u8]) -> bool {
     for t in 0..n + 6 {
         let bit = if t < n { train[t] as u32 } else { 0 };
         register = register / 2 + 64 * bit;
-        let pair = own_pair(heard[2 * t], heard[2 * t + 1], coded(register, X_TAPS), coded(register, Y_TAPS));
+        let pair = own_pair(heard[2 * t], heard[2 * t + 1], parity_of(register, X_TAPS), parity_of(register, Y_TAPS));
         let turn = step(costs, &xs, &ys, pair);
         costs = turn.costs;
         if !is_above(turn.gaps[(register / 2) as usize], register % 2) {

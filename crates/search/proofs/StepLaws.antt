@@ -50,13 +50,13 @@ choose-most : (z : Bool) (c0 c1 m : ℕ) → c0 ≤ m → c1 ≤ m → choose z 
 choose-most true c0 c1 m h0 h1 = h0
 choose-most false c0 c1 m h0 h1 = h1
 
-pub paired-most : (x0 x1 y0 y1 : ℕ) → Small x0 x1 y0 y1 → (r : ℕ) → paired x0 x1 y0 y1 r ≤ 1022
+pub paired-most : (x0 x1 y0 y1 : ℕ) → Small x0 x1 y0 y1 → (r : ℕ) → paired x0 x1 y0 y1 r ≤ 510
 unfolding paired
 paired-most x0 x1 y0 y1 small r =
     omega (
       arith,
-      choose-most (eqb (parity r maskX) 0) x0 x1 511 (small .small-x0) (small .small-x1),
-      choose-most (eqb (parity r maskY) 0) y0 y1 511 (small .small-y0) (small .small-y1),
+      choose-most (eqb (parity r maskX) 0) x0 x1 255 (small .small-x0) (small .small-x1),
+      choose-most (eqb (parity r maskY) 0) y0 y1 255 (small .small-y0) (small .small-y1),
     )
 
 pub branch-by : (x0 x1 y0 y1 x-mask y-mask x y a : ℕ) → Small x0 x1 y0 y1 → Masked x0 x1 x-mask x → Masked y0 y1 y-mask y → a ≡ wrapped (x + y)

@@ -9,10 +9,10 @@
 --   way             the stored cost of the way into state s with oldest bit d
 --   gapAt, costAt   the gap between the two ways into a state, and the lesser of them
 --   above           whether a gap puts the way with the other oldest bit strictly above the way with this one
---   Crossed         the two states that two states lead to
+--   Crossed         the ways from an even and an odd state into a low and a high one
 --   Small           the bound on the costs of a coded bit
 --   maskAt, Masks   all ones where a register's count of ones under the taps is odd, and those of the 32 registers 2 j
---   Stored          64 stored numbers
+--   Stored          64 numbers, by state
 --   Weights         the weights of sixteen bits
 --   Turned          one step from old costs: the costs and gaps of all states
 -- Assumes nothing.
@@ -26,12 +26,15 @@ use Rattle.laws.specs.Lists.{choose}
 use Rattle.coder.specs.Register.{parity, maskX, maskY}
 use Rattle.trellis.specs.Passes.{via, before}
 
+-- stored numbers are below this
 abbrev pub width : ℕ
 width = 4294967296
 
+-- a gap from here on says less
 abbrev pub half : ℕ
 half = 2147483648
 
+-- a state other than 0 is started in at this cost
 abbrev pub start : ℕ
 start = 4096
 
@@ -78,12 +81,12 @@ pub record Crossed (even odd a b low low-gap high high-gap : ℕ) : Type 0 where
   pub high-by : high-gap ≡ gap (wrapped (even + b)) (wrapped (odd + a))
   pub high-is : high ≡ lesser (wrapped (even + b)) high-gap
 
--- no coded bit costs more than 511 in either pass
+-- no coded bit costs more than 255 in either pass
 pub record Small (x0 x1 y0 y1 : ℕ) : Type 0 where
-  pub small-x0 : x0 ≤ 511
-  pub small-x1 : x1 ≤ 511
-  pub small-y0 : y0 ≤ 511
-  pub small-y1 : y1 ≤ 511
+  pub small-x0 : x0 ≤ 255
+  pub small-x1 : x1 ≤ 255
+  pub small-y0 : y0 ≤ 255
+  pub small-y1 : y1 ≤ 255
 
 -- all ones where a register's count of ones under the taps is odd
 unfoldable pub maskAt : ℕ → ℕ → ℕ
