@@ -59,21 +59,21 @@ module _ (N : ℕ) (f : ℕ → ℕ) where
           tailed-before (tabulate N f) k (rw (tabulate-length N f) (ltb-true k N e)) ∙ tabulate-at N f k 0 (ltb-true k N e)
       go false e = tailed-after (tabulate N f) k (rw (tabulate-length N f) (ltb-false k N e))
 
-pub scrambled-length : (counter N : ℕ) (octets : List ℕ) → length (scrambled counter N octets) ≡ N
-unfolding scrambled
-scrambled-length counter N octets = tabulate-length N (scrambledBit counter octets)
-
 -- input t is a scrambled bit below N, and a zero from there on
 pub input-at : (counter N : ℕ) (octets : List ℕ) (t : ℕ)
     → getD (tailed (scrambled counter N octets)) t 0 ≡ choose (ltb t N) (scrambledBit counter octets t) 0
 unfolding scrambled
 input-at counter N octets = tailed-tabulate N (scrambledBit counter octets)
 
-pub scrambled-bit : (counter : ℕ) (octets : List ℕ) (t : ℕ) → scrambledBit counter octets t < 2
+scrambled-bit : (counter : ℕ) (octets : List ℕ) (t : ℕ) → scrambledBit counter octets t < 2
 unfolding scrambledBit
 scrambled-bit counter octets t = omega arith
 
+-- octets scrambled are a train
+pub scrambled-train : (counter N : ℕ) (octets : List ℕ) → Train N (scrambled counter N octets)
+unfolding scrambled
+scrambled-train counter N octets = tabulate-train N (scrambledBit counter octets) (scrambled-bit counter octets)
+
 -- every input is a bit
 pub input-bits : (counter N : ℕ) (octets : List ℕ) → Bits (tailed (scrambled counter N octets))
-unfolding scrambled
-input-bits counter N octets = tailed-bits (tabulate-train N (scrambledBit counter octets) (scrambled-bit counter octets))
+input-bits counter N octets = tailed-bits (scrambled-train counter N octets)

@@ -13,14 +13,7 @@ use Rattle.laws.proofs.SumLaws.{total-ext}
 use Rattle.laws.proofs.Tables.{below-at}
 use Rattle.modes.specs.Sizes.{octetsOf}
 use Rattle.coder.specs.Scrambler.{bitOf, output, state, scrambledBit, scrambled}
-use Rattle.coder.proofs.TrainLaws.{scrambled-length, scrambled-bit}
 use Rattle.unique.specs.Sameness.{Octets}
-use Rattle.coder.specs.Train.{Train}
-
-pub scrambled-bits : (counter N : ℕ) (s : List ℕ) → Train N (scrambled counter N s)
-unfolding scrambled
-scrambled-bits counter N s =
-    record { count = scrambled-length counter N s; low = λ t h. rw tabulate-at (scrambled-bit counter s t) }
 
 -- one output added to two bits
 same-sum : (x y z : ℕ) → x < 2 → y < 2 → (x + z) % 2 ≡ (y + z) % 2 → x ≡ y

@@ -15,7 +15,7 @@ use Rattle.modes.specs.Sizes.{sentBits, octetsOf}
 use Rattle.coder.specs.Scrambler.{scrambled}
 use Rattle.coder.specs.Encoder.{tailed, coded}
 use Rattle.coder.specs.Train.{Train}
-use Rattle.coder.proofs.TrainLaws.{tailed-before, tailed-bits}
+use Rattle.coder.proofs.TrainLaws.{tailed-before, tailed-bits, scrambled-train}
 use Rattle.places.specs.Selection.{Selection}
 use Rattle.places.specs.Trains.{pdu, train, Pdu, pdus, listed, lengthOf, sentOf, FitPdus}
 use Rattle.places.proofs.SelectionLaws.{Takes, place-origin}
@@ -25,7 +25,7 @@ use Rattle.unique.proofs.KeptLaws.{Sent}
 use Rattle.unique.proofs.WindowLaws.{windowed-pdu, windowed-pdus}
 use Rattle.unique.proofs.LocalLaws.{Shown, by-X, by-Y, by-next, step-shown}
 use Rattle.unique.proofs.EncodedLaws.{Alike, X-tells, Y-tells, next-tells}
-use Rattle.unique.proofs.OctetLaws.{scrambled-bits, octets-back}
+use Rattle.unique.proofs.OctetLaws.{octets-back}
 
 -- two trains of N bits with the same sent bits, through a selection that shows every step
 module _ (f : Selection) (N n : ℕ) (takes : Takes f (2 * (N + 6)) n) (shown : (d : ℕ) → Shown f d)
@@ -84,11 +84,11 @@ pub listed-octets-unique : (ps : List Pdu) (a counter : ℕ) → FitPdus ps → 
 listed-octets-unique ps a counter fit fits whole s r hs hr same =
     let N : ℕ = lengthOf ps in
     octets-back counter N whole s r hs hr
-    (listed-unique ps a fit fits _ _ (scrambled-bits counter N s) (scrambled-bits counter N r) same)
+    (listed-unique ps a fit fits _ _ (scrambled-train counter N s) (scrambled-train counter N r) same)
 
 pub train-octets-unique : (k N a counter : ℕ) → 1 ≤ k → k ≤ 7 → N % info k ≡ 0 → a + 72 ≤ N → N % 8 ≡ 0
     → (s r : List ℕ) → Octets (octetsOf N) s → Octets (octetsOf N) r
     → SameSent (train k a) (sentBits k N) (scrambled counter N s) (scrambled counter N r) → s ≡ r
 train-octets-unique k N a counter low high symbols fits octets s r hs hr same =
     octets-back counter N octets s r hs hr
-    (train-unique k N a low high symbols fits _ _ (scrambled-bits counter N s) (scrambled-bits counter N r) same)
+    (train-unique k N a low high symbols fits _ _ (scrambled-train counter N s) (scrambled-train counter N r) same)
