@@ -10,11 +10,12 @@ ghost use Rattle.coder.specs.Train.{codedBit};
 ghost use Rattle.coder.specs.Register.{entered, parity, maskX, maskY};
 
 // The polynomials as masks of the seven-bit register, whose newest bit is the highest.
-const X_TAPS: u32 = 0o133;
+pub const X_TAPS: u32 = 0o133;
 
-const Y_TAPS: u32 = 0o171;
+pub const Y_TAPS: u32 = 0o171;
 
-fn wide(octet: u8) -> u32
+// An octet as a number of the register's width.
+pub fn wide(octet: u8) -> u32
     ensures { λ r. ⌜ r ≡ octet ⌝ }
 {
     octet as u32

@@ -4,16 +4,24 @@ use mathlib.Core.Path.{_≡_, refl, sym, _∙_}
 use mathlib.Core.Bool.{Bool, true, false, _&&_, false≢true}
 use mathlib.Core.Logic.{_⊎_}
 use mathlib.Core.List.{List, [], _∷_}
-use Prim.Native.Nat.{ℕ, zero, suc, _+_, _-_, _≤_, _<_}
+use Prim.Native.Nat.{ℕ, zero, suc, _+_, _-_, _*_, _≤_, _<_}
 use native.Mathlib.Nat.{sub-zero}
 use native.Mathlib.Omega.{arith}
-use lib.Dec.{ltb}
+use lib.Dec.{leb, ltb}
 use lib.ListN.{length, getD, take, length-take}
-use borrow.Author.Tests.{ltb-true, lt-ltb}
+use borrow.Author.Tests.{ltb-true, lt-ltb, leb-true, leb-false}
 use Rattle.coder.specs.Train.{Train}
 use Rattle.points.specs.Levels.{allBits}
 use Rattle.search.specs.Promises.{Searched, Marked}
-use Rattle.gauge.specs.Gauge.{unfit, Lengths, Gauged, Marks}
+use Rattle.gauge.specs.Gauge.{unfit, Fit, Lengths, Tells, Gauged, Marks}
+
+-- lengths by the tests
+pub fit-not : (n heard train : ℕ) → (Fit n heard train → ⊥) → Tells n heard train false
+fit-not n heard train never = record { so = λ e. absurd (false≢true e); not-so = λ _. never }
+
+pub fit-by : (n heard train : ℕ) → n ≤ 3472 → heard ≡ 2 * (n + 6) → Tells n heard train (leb n train)
+fit-by n heard train range pairs =
+    record { so = λ e. record { range = range; pairs = pairs; room = leb-true n train e }; not-so = λ e fit. omega (arith, leb-false n train e, fit .room) }
 
 pub gauged-not : (n : ℕ) (heard train words : List ℕ) → (Lengths n heard train → n + 6 ≤ length words → ⊥) → Gauged n heard train words unfit train words
 gauged-not n heard train words never = record { fit = λ l h. absurd (never l h); not-fit = λ _. (refl, refl, refl) }

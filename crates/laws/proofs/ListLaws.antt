@@ -2,15 +2,16 @@
 -- Assumes nothing.
 use mathlib.Core.Path.{_≡_, refl, ap, ap₂, sym, _∙_}
 use mathlib.Core.Bool.{Bool, true, false}
+use mathlib.Core.Logic.{_≢_}
 use mathlib.Core.List.{List, [], _∷_, _++_}
 use Prim.Native.Nat.{ℕ, zero, suc, _+_, _-_, _*_, _≤_, _<_}
 use native.Mathlib.Nat.{not-suc-le-zero, le-of-suc-le-suc}
 use native.Mathlib.Numerals.{add-one}
 use native.Mathlib.Omega.{arith}
-use lib.Dec.{ltb}
-use borrow.Author.Tests.{ltb-true, ltb-false}
+use lib.Dec.{eqb, ltb}
+use borrow.Author.Tests.{eqb-true, eqb-false, ltb-true, ltb-false}
 use lib.ListN.{length, getD, set, take, drop, length-append, length-drop, List·getD-append}
-use lib.Seq.{take-at, drop-at, drop-cons, set-at, append-snoc, getD-append-add, getD-drop, ext-getD}
+use lib.Seq.{take-at, drop-at, drop-cons, set-at, append-snoc, getD-append-add, getD-drop, getD-set-same, getD-set-other, ext-getD}
 use Rattle.laws.specs.Lists.{tabulate, filled}
 
 module _ {ℓ} {A : Type ℓ} where
@@ -36,6 +37,17 @@ module _ {ℓ} {A : Type ℓ} where
   unfolding tabulate
   tabulate-snoc zero f = refl
   tabulate-snoc (suc n) f = ap (λ l. f zero ∷ l) (tabulate-snoc n (λ k. f (suc k)))
+
+  -- an entry after a store
+  pub after-set : (l : List A) (i : ℕ) (a : A) (j : ℕ) (d x : A) → i < length l → (j ≡ i → a ≡ x) → (j ≢ i → getD l j d ≡ x)
+      → getD (set l i a) j d ≡ x
+  after-set l i a j d x inside here there = go (eqb j i) refl
+    where
+      go : (t : Bool) → eqb j i ≡ t → getD (set l i a) j d ≡ x
+      go true t =
+          let same : j ≡ i = eqb-true j i t in
+          ap (λ (m : ℕ). getD (set l i a) m d) same ∙ getD-set-same l i a d inside ∙ here same
+      go false t = getD-set-other l i j a d (eqb-false j i t) ∙ there (eqb-false j i t)
 
   pub filled-none : (f : ℕ → A) (l : List A) → filled 0 f l ≡ l
   unfolding filled tabulate

@@ -5,23 +5,12 @@ use mathlib.Core.Bool.{Bool, true, false}
 use mathlib.Core.List.{List}
 use Prim.Native.Nat.{ℕ, suc, _+_, _-_, _*_, _/_, _%_, _^_, _≤_, _<_}
 use native.Mathlib.Omega.{arith}
-use lib.Dec.{eqb, leb}
+use lib.Dec.{leb}
 use lib.ListN.{length, getD, set, length-set}
-use lib.Seq.{getD-set-same, getD-set-other}
-use borrow.Author.Tests.{eqb-true, eqb-false, leb-true, leb-false}
+use borrow.Author.Tests.{leb-true, leb-false}
 use Rattle.laws.specs.Lists.{choose, filled}
-use Rattle.laws.proofs.ListLaws.{filled-ext}
+use Rattle.laws.proofs.ListLaws.{after-set, filled-ext}
 use Rattle.search.specs.Followed.{bitIn, followed}
-
--- an entry after a store
-after-set : (l : List ℕ) (i a j x : ℕ) → i < length l → (j ≡ i → a ≡ x) → ((j ≡ i → ⊥) → getD l j 0 ≡ x) → getD (set l i a) j 0 ≡ x
-after-set l i a j x inside here there = go (eqb j i) refl
-  where
-    go : (t : Bool) → eqb j i ≡ t → getD (set l i a) j 0 ≡ x
-    go true t =
-        let same : j ≡ i = eqb-true j i t in
-        ap (λ (m : ℕ). getD (set l i a) m 0) same ∙ getD-set-same l i a 0 inside ∙ here same
-    go false t = getD-set-other l i j a 0 (eqb-false j i t) ∙ there (eqb-false j i t)
 
 -- the bits of the train that left the register, the last first, with t steps still to go
 pub record Trained (n : ℕ) (bits train₀ train : List ℕ) (t : ℕ) : Type 0 where
@@ -66,10 +55,10 @@ module _ (n : ℕ) (train₀ words₀ : List ℕ) (train-room : n ≤ length tra
           record {
             long = simp length-set (c .long);
             found = λ k less past.
-                after-set train (t - 6) bit k _ inside
+                after-set train (t - 6) bit k 0 _ inside
                 (λ same. let e : n + 5 - t ≡ n - 1 - k = omega arith in sym (rw e at left))
                 (λ other. c .found k less (omega arith));
-            kept = λ k h. after-set train (t - 6) bit k _ inside (λ same. absurd (omega arith)) (λ other. c .kept k h);
+            kept = λ k h. after-set train (t - 6) bit k 0 _ inside (λ same. absurd (omega arith)) (λ other. c .kept k h);
           }
       go false b =
           let early : t < 6 = leb-false 6 t b in
@@ -80,9 +69,9 @@ module _ (n : ℕ) (train₀ words₀ : List ℕ) (train-room : n ≤ length tra
       let inside : t < length words = omega arith in
       record {
         long = simp length-set (c .long);
-        zero-at = λ j low high. after-set words t 0 j 0 inside (λ same. refl) (λ other. c .zero-at j (omega arith) high);
-        unread = λ j h. after-set words t 0 j _ inside (λ same. absurd (omega arith)) (λ other. c .unread j (omega arith));
-        beyond = λ j h. after-set words t 0 j _ inside (λ same. absurd (omega arith)) (λ other. c .beyond j h);
+        zero-at = λ j low high. after-set words t 0 j 0 0 inside (λ same. refl) (λ other. c .zero-at j (omega arith) high);
+        unread = λ j h. after-set words t 0 j 0 _ inside (λ same. absurd (omega arith)) (λ other. c .unread j (omega arith));
+        beyond = λ j h. after-set words t 0 j 0 _ inside (λ same. absurd (omega arith)) (λ other. c .beyond j h);
       }
 
   turn : (train words : List ℕ) (s t bit : ℕ) → Following n train₀ words₀ train words s (suc t) → bit ≡ getD words t 0 / 2 ^ s % 2

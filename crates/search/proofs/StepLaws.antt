@@ -9,9 +9,9 @@ use lib.Bits.{bitAnd, and-zero-r, and-mask}
 use lib.Count.{ones, onesIn}
 use lib.Dec.{T, eqb, ltb, eqb→eq}
 use lib.ListN.{length, getD, set, length-set}
-use lib.Seq.{getD-set-same, getD-set-other}
 use borrow.Author.Tests.{ltb-true, ltb-false}
 use Rattle.laws.specs.Lists.{choose}
+use Rattle.laws.proofs.ListLaws.{after-set}
 use Rattle.laws.proofs.Tables.{below, below-at, table-rule, both, both-left, both-right}
 use Rattle.coder.specs.Register.{parity, maskX, maskY}
 use Rattle.trellis.specs.Passes.{via, before}
@@ -131,24 +131,23 @@ halves-none f l all = record { all = all; made = λ i h. absurd (omega arith) }
 
 pub halves-again : (f : ℕ → ℕ) (j : ℕ) (l : List ℕ) (u v : ℕ) → Halves f j l → j < 32 → u ≡ f j → v ≡ f (j + 32)
     → Halves f (j + 1) (set (set l j u) (j + 32) v)
-halves-again f j l u v halves h eu ev = record { all = simp length-set (halves .all); made = λ i hi. go i hi (ltb i j) refl }
+halves-again f j l u v halves h eu ev = record { all = simp length-set (halves .all); made = λ i hi. (lower i hi, upper i hi) }
   where
-    count : length (set l j u) ≡ 64
-    count = simp length-set (halves .all)
+    inside : j < length l
+    inside = omega (arith, halves .all)
 
-    go : (i : ℕ) → i < j + 1 → (t : Bool) → ltb i j ≡ t
-        → (getD (set (set l j u) (j + 32) v) i 0 ≡ f i) × (getD (set (set l j u) (j + 32) v) (i + 32) 0 ≡ f (i + 32))
-    go i hi true e =
-        let low : i < j = ltb-true i j e in (
-          getD-set-other (set l j u) (j + 32) i v 0 (omega arith) ∙ getD-set-other l j i u 0 (omega arith) ∙ halves .made i low .0,
-          getD-set-other (set l j u) (j + 32) (i + 32) v 0 (omega arith) ∙ getD-set-other l j (i + 32) u 0 (omega arith) ∙ halves .made i low .1,
-        )
-    go i hi false e =
-        let same : i ≡ j = omega (arith, ltb-false i j e) in
-        rw same (
-          getD-set-other (set l j u) (j + 32) j v 0 (omega arith) ∙ getD-set-same l j u 0 (omega (arith, halves .all)) ∙ eu,
-          getD-set-same (set l j u) (j + 32) v 0 (omega (arith, count)) ∙ ev,
-        )
+    inside-too : j + 32 < length (set l j u)
+    inside-too = simp length-set (omega (arith, halves .all))
+
+    lower : (i : ℕ) → i < j + 1 → getD (set (set l j u) (j + 32) v) i 0 ≡ f i
+    lower i hi =
+        after-set (set l j u) (j + 32) v i 0 (f i) inside-too (λ same. absurd (omega arith))
+        (λ _. after-set l j u i 0 (f i) inside (λ same. rw same eu) (λ other. halves .made i (omega arith) .0))
+
+    upper : (i : ℕ) → i < j + 1 → getD (set (set l j u) (j + 32) v) (i + 32) 0 ≡ f (i + 32)
+    upper i hi =
+        after-set (set l j u) (j + 32) v (i + 32) 0 (f (i + 32)) inside-too (λ same. rw same ev)
+        (λ other. after-set l j u (i + 32) 0 (f (i + 32)) inside (λ same. absurd (omega arith)) (λ _. halves .made i (omega arith) .1))
 
 pub halves-all : (f : ℕ → ℕ) (j : ℕ) (l : List ℕ) → Halves f j l → 32 ≤ j → Stored f l
 halves-all f j l halves h = record { all = halves .all; at = λ s hs. go s hs (ltb s 32) refl }

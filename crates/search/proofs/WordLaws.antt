@@ -10,10 +10,9 @@ use native.Mathlib.Omega.{arith}
 use lib.Dec.{ltb}
 use lib.ListN.{length, getD, set, length-set}
 use lib.Pow.{pow-mono}
-use lib.Seq.{getD-set-same, getD-set-other}
-use borrow.Author.Tests.{ltb-true, ltb-false}
 use Rattle.laws.specs.Lists.{choose}
 use Rattle.laws.specs.Packing.{packed}
+use Rattle.laws.proofs.ListLaws.{after-set}
 use Rattle.laws.proofs.PackingLaws.{packed-ext, packed-low, packed-join}
 use Rattle.search.specs.Stored.{half, top, Weights}
 
@@ -52,16 +51,11 @@ weighing-again w k m more =
       counted = omega arith;
       begun = omega arith;
       long = simp length-set (m .long);
-      made = λ i h. go i h (ltb i k) refl;
+      made = λ i h.
+          after-set w k _ i 0 (2 ^ i) (omega (arith, m .long))
+          (λ same. rw same (twice w k m))
+          (λ other. m .made i (omega arith));
     }
-  where
-    go : (i : ℕ) → i < k + 1 → (t : Bool) → ltb i k ≡ t → getD (set w k (2 * getD w (k - 1) 0)) i 0 ≡ 2 ^ i
-    go i h true t =
-        let less : i < k = ltb-true i k t in
-        getD-set-other w k i _ 0 (λ same. omega arith) ∙ m .made i less
-    go i h false t =
-        let same : i ≡ k = omega (arith, ltb-false i k t) in
-        rw same (getD-set-same w k _ 0 (omega (arith, m .long)) ∙ twice w k m)
 
 -- and when all are made
 pub weights-made : (w : List ℕ) (k : ℕ) → Weighing w k → 16 ≤ k → Weights w

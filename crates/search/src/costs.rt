@@ -5,12 +5,7 @@ ghost use lib.Dec.{eqb};
 ghost use Rattle.laws.specs.Lists.{choose};
 ghost use Rattle.search.specs.Bytes.{byteCost, byteHeard, agreeing, Costs};
 use crate::step::Pair;
-
-pub fn wide(byte: u8) -> u32
-    ensures { λ r. ⌜ (r ≡ byte) × (r < 256) ⌝ }
-{
-    byte as u32
-}
+use coder::wide;
 
 // What a bit that is 0 costs; a byte of 0, not heard, is below 128.
 fn cost_of_0(byte: u8) -> u32

@@ -9,13 +9,13 @@ ghost use Rattle.trellis.specs.Passes.{best, choice};
 ghost use Rattle.search.specs.Stored.{start};
 ghost use Rattle.search.specs.Bytes.{costOf};
 use crate::costs::pair_of;
-use crate::step::X_TAPS;
-use crate::step::Y_TAPS;
 use crate::step::masks_of;
 use crate::step::started;
 use crate::step::step;
 use crate::words::weights;
 use crate::words::word_of;
+use coder::X_TAPS;
+use coder::Y_TAPS;
 
 // The words, and the cost of the best way into state 0.
 pub fn forward(n: usize, heard: &[u8], words: &mut [u64]) -> u32

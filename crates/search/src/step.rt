@@ -9,11 +9,6 @@ ghost use Rattle.laws.specs.Lists.{choose};
 ghost use Rattle.coder.specs.Register.{maskX, maskY};
 ghost use Rattle.search.specs.Stored.{width, start, wrapped, lesser, above, paired, Crossed, Small, maskAt, Masks, Stored, Turned};
 
-// The polynomials as masks of the seven-bit register, whose newest bit is the highest.
-pub const X_TAPS: u32 = 0o133;
-
-pub const Y_TAPS: u32 = 0o171;
-
 // The cost at which a state other than 0 is started in: more than six steps can cost in either pass.
 const START: u32 = 4096;
 

@@ -13,7 +13,7 @@ wide-requires : tie.Need-wide-requires
 wide-requires c κs = search needs
 
 returns : tie.Need-returns
-returns c = rw (lt-ltb _ _ (c .before .before .if1 .taken)) (c .wide .ensures .0)
+returns c = rw (lt-ltb _ _ (c .before .before .if1 .taken)) (c .wide .ensures)
 
 returns-2 : tie.Need-returns-2
 returns-2 c = rw (le-ltb _ _ (c .if1 .left)) refl
