@@ -1,8 +1,8 @@
 /* The calls of libjuzambore.a (`rt staticlib juzambore`).
  *
  * Every input of any length is accepted. Each call tests what it is given and answers bad input with the refusal
- * number of document 01 (0: done); it then changes no lent byte. A lent buffer that is longer than the call needs is
- * unchanged past the needed length. Lent buffers must not overlap. */
+ * number of document 01 (0: done); it then changes no lent byte or word and reports zero for everything else. A lent
+ * buffer that is longer than the call needs is unchanged past the needed length. Lent buffers must not overlap. */
 #ifndef JUZAMBORE_H
 #define JUZAMBORE_H
 
@@ -15,6 +15,16 @@ typedef struct {
     float i;
     float q;
 } juzambore_point;
+
+/* What a decode reports: a refusal number, the train's symbols and sent bits, its rounded cost, and 1 where it is
+ * confirmed, else 0. All are zero but the refusal where the call is refused. */
+typedef struct {
+    uint32_t refusal;
+    uint32_t symbols;
+    uint32_t n;
+    uint32_t cost;
+    uint32_t confirmed;
+} juzambore_answer;
 
 /* The sent bits of a train of n information bits, one to a byte. Refusals 1 to 8. */
 uint32_t juzambore_encode(uint32_t mode, uint32_t counter, uint32_t n, uint32_t a,
@@ -29,5 +39,25 @@ uint32_t juzambore_ideal(uint32_t mode, uint32_t n,
 
 /* The point of one group value, its earliest bit the highest. Refusals 1 and 9. */
 juzambore_point juzambore_mapped(uint32_t mode, uint32_t group);
+
+/* The soft bytes of readings, one for each sent bit. Refusals 1, 3, 4, 5, 7, 8. */
+uint32_t juzambore_soften(uint32_t mode, uint32_t n,
+                          const int16_t *i, size_t i_len,
+                          const int16_t *q, size_t q_len,
+                          int8_t *soft, size_t soft_len);
+
+/* The train of least cost, from soft bytes. It needs n / 8 octets out and n + 6 working words, which are zero after
+ * success; what they held before does not matter. Refusals 1 to 9. */
+juzambore_answer juzambore_decode_soft(uint32_t mode, uint32_t counter, uint32_t n, uint32_t a,
+                                       const int8_t *soft, size_t soft_len,
+                                       uint8_t *octets, size_t octets_len,
+                                       uint64_t *words, size_t words_len);
+
+/* The same from readings: the soft bytes are made and decoded. Refusals 1 to 8. */
+juzambore_answer juzambore_decode_readings(uint32_t mode, uint32_t counter, uint32_t n, uint32_t a,
+                                           const int16_t *i, size_t i_len,
+                                           const int16_t *q, size_t q_len,
+                                           uint8_t *octets, size_t octets_len,
+                                           uint64_t *words, size_t words_len);
 
 #endif

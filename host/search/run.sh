@@ -3,25 +3,16 @@
 #
 #     host/search/run.sh
 #
-# It needs a C compiler, rustc, libosmocore-dev and valgrind. The proved library is x86-64 code: on another machine all
-# is built for x86-64 and run by an emulator, which counts the instructions, and no times are taken. Variables name the
-# tools; in brackets what they are by default where the machine is not x86-64:
+# It needs a C compiler, rustc, libosmocore-dev and valgrind, or an emulator. Variables name the tools, as host/machine.sh
+# says, and
 #
-#     CC, CFLAGS, LDFLAGS    cc [x86_64-linux-gnu-gcc]; the flags name the folders of libosmocore for x86-64, if need be
-#     RUSTC, RUSTFLAGS       rustc [--target x86_64-unknown-linux-gnu]
-#     EMULATOR               not used [qemu-x86_64, of version 8.1 or later]
 #     LIBRARY                a ready libgauge.a; without it `rt staticlib gauge` proves and makes one
 set -eu
 cd "$(dirname "$0")/../.."
 work=$(mktemp -d)
 trap 'rm -r "$work"' EXIT
 
-emulator=
-if [ "$(uname -m)" != x86_64 ]; then
-    emulator=${EMULATOR:-qemu-x86_64}
-    CC=${CC:-x86_64-linux-gnu-gcc}
-    RUSTFLAGS=${RUSTFLAGS:---target x86_64-unknown-linux-gnu}
-fi
+. host/machine.sh
 
 library=${LIBRARY:-target/staticlib/libgauge.a}
 if [ -z "${LIBRARY:-}" ]; then
@@ -37,16 +28,6 @@ $cc -o "$work/race" host/search/race.c "${shared[@]}" ${LDFLAGS:-} -losmocore -l
 
 $emulator "$work/check" 5000 300
 $emulator "$work/race" agree
-
-# The instructions of a program with its arguments.
-counted() {
-    if [ -n "$emulator" ]; then
-        $emulator -one-insn-per-tb -d exec,nochain "$@" 2>&1 > /dev/null | grep -c ^Trace
-    else
-        valgrind --tool=callgrind --callgrind-out-file=/dev/null "$@" 2>&1 > /dev/null |
-            sed -n 's/.*Collected : \([0-9]*\).*/\1/p'
-    fi
-}
 
 # What one train more takes, start-up left out.
 one_train() {

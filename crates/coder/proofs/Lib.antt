@@ -1,3 +1,4 @@
 pub mod EncoderLaws
 pub mod TrainLaws
 pub mod CodeLaws
+pub mod OctetLaws

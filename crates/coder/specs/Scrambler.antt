@@ -5,6 +5,7 @@
 --   shifted    shifting from stage 1 towards 7, the output fed back
 --   state      the state when t bits have been scrambled
 --   scrambled  the train's N bits, each xored with one output
+--   descrambledBit, octetAt  the way back: a scrambled train's bits descrambled, eight to an octet
 -- Assumes nothing.
 use Prim.Native.Nat.{ℕ, zero, suc, _+_, _-_, _*_, _/_, _%_, _^_}
 use mathlib.Core.List.{List}
@@ -39,3 +40,16 @@ scrambledBit counter octets t = (bitOf octets t + output (state counter t)) % 2
 -- the train's N bits, scrambled
 unfoldable pub scrambled : ℕ → ℕ → List ℕ → List ℕ
 scrambled counter N octets = tabulate N (scrambledBit counter octets)
+
+-- one bit of a scrambled train xored with the same output: descrambling is the same
+unfoldable pub descrambledBit : ℕ → List ℕ → ℕ → ℕ
+descrambledBit counter w t = (getD w t 0 + output (state counter t)) % 2
+
+-- the number that n bits from `from` on write, the first the highest
+unfoldable pub written : (ℕ → ℕ) → ℕ → ℕ → ℕ
+written f from zero = 0
+written f from (suc n) = 2 * written f from n + f (from + n)
+
+-- octet k of a train that is descrambled
+unfoldable pub octetAt : ℕ → List ℕ → ℕ → ℕ
+octetAt counter w k = written (descrambledBit counter w) (8 * k) 8

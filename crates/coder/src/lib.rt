@@ -1,5 +1,8 @@
-// Scrambler, tail and encoder (000, 5.2 and 5.3.1): the coded bits of a train, X and Y of each input in turn.
-// It refuses nothing: its callers have tested what they lend.
+// Scrambler, tail and encoder (000, 5.2 and 5.3.1): the coded bits of a train, X and Y of each input in turn; and (octets.rt) a
+// scrambled train back to octets. It refuses nothing: its callers have tested what they lend.
+mod octets;
+
+pub use octets::descramble;
 ghost use mathlib.Core.Path.{_≡_};
 ghost use Prim.Native.Nat.{_+_, _*_, _/_, _%_, _<_, _≤_};
 ghost use lib.Dec.{ltb};

@@ -1,14 +1,29 @@
 // The public calls under C names, for the static library libjuzambore.a: `rt staticlib juzambore`. juzambore.h declares them.
 // Each carries the promise of its call in `modem`. A slice is a pointer and a length; lent buffers do not overlap.
+ghost use mathlib.Core.Path.{_≡_};
+ghost use Prim.Native.Nat.{_≤_};
+ghost use lib.Dec.{eqb};
 ghost use Rattle.modem.specs.Encode.{Encode};
 ghost use Rattle.modem.specs.Ideal.{Ideal};
 ghost use Rattle.modem.specs.Point.{MapsTo};
+ghost use Rattle.modem.specs.Soften.{Soften};
+ghost use Rattle.modem.specs.Decode.{outcome, DecodeSoft, DecodeReadings};
 
 #[repr(C)]
 pub struct JuzamborePoint {
     pub refusal: u32,
     pub i: f32,
     pub q: f32,
+}
+
+// `confirmed` is 1 or 0.
+#[repr(C)]
+pub struct JuzamboreAnswer {
+    pub refusal: u32,
+    pub symbols: u32,
+    pub n: u32,
+    pub cost: u32,
+    pub confirmed: u32,
 }
 
 #[no_mangle]
@@ -47,5 +62,65 @@ pub extern "C" fn juzambore_mapped(mode: u32, group: u32) -> JuzamborePoint
         refusal: m.refusal,
         i: m.point.i,
         q: m.point.q,
+    }
+}
+
+#[no_mangle]
+pub extern "C" fn juzambore_soften(mode: u32, n: u32, i: &[i16], q: &[i16], soft: &mut [i8]) -> u32
+    ensures { λ r. ⌜ Soften mode n (now (i .entry)) (now (q .entry)) (now (soft .entry)) r (now (soft .exit)) ⌝ }
+{
+    modem::soften(mode, n, i, q, soft)
+}
+
+fn flag(confirmed: bool) -> u32
+    ensures { λ r. ⌜ (r ≤ 1) × (eqb r 1 ≡ confirmed) ⌝ }
+{
+    if confirmed { 1 } else { 0 }
+}
+
+#[no_mangle]
+pub extern "C" fn juzambore_decode_soft(
+    mode: u32,
+    counter: u32,
+    n: u32,
+    a: u32,
+    soft: &[i8],
+    octets: &mut [u8],
+    words: &mut [u64],
+) -> JuzamboreAnswer
+    ensures { λ r. ⌜ DecodeSoft mode counter n a (now (soft .entry)) (now (octets .entry)) (now (words .entry)) (r .refusal) (outcome (r .symbols) (r .n) (r .cost) (eqb (r .confirmed) 1) (now (octets .exit)) (now (words .exit))) ⌝ }
+    ensures flag { λ r. ⌜ r .confirmed ≤ 1 ⌝ }
+{
+    let answer = modem::decode_soft(mode, counter, n, a, soft, octets, words);
+    JuzamboreAnswer {
+        refusal: answer.refusal,
+        symbols: answer.symbols,
+        n: answer.n,
+        cost: answer.cost,
+        confirmed: flag(answer.confirmed),
+    }
+}
+
+#[no_mangle]
+pub extern "C" fn juzambore_decode_readings(
+    mode: u32,
+    counter: u32,
+    n: u32,
+    a: u32,
+    i: &[i16],
+    q: &[i16],
+    octets: &mut [u8],
+    words: &mut [u64],
+) -> JuzamboreAnswer
+    ensures { λ r. ⌜ DecodeReadings mode counter n a (now (i .entry)) (now (q .entry)) (now (octets .entry)) (now (words .entry)) (r .refusal) (outcome (r .symbols) (r .n) (r .cost) (eqb (r .confirmed) 1) (now (octets .exit)) (now (words .exit))) ⌝ }
+    ensures flag { λ r. ⌜ r .confirmed ≤ 1 ⌝ }
+{
+    let answer = modem::decode_readings(mode, counter, n, a, i, q, octets, words);
+    JuzamboreAnswer {
+        refusal: answer.refusal,
+        symbols: answer.symbols,
+        n: answer.n,
+        cost: answer.cost,
+        confirmed: flag(answer.confirmed),
     }
 }

@@ -28,6 +28,13 @@ ladder-goes-on [] ys t h = refl
 ladder-goes-on ((k when true) ∷ xs) ys t h = absurd (omega (arith, ltb→lt 0 k (both-left (ltb 0 k) (numbered xs) t)))
 ladder-goes-on ((k when false) ∷ xs) ys t h = ladder-goes-on xs ys (both-right (ltb 0 k) (numbered xs) t) h
 
+-- not refused by all is not refused by the first of them
+pub ladder-front : (xs ys : List Rung) → T (numbered xs) → ladder (xs ++ ys) ≡ 0 → ladder xs ≡ 0
+unfolding ladder
+ladder-front [] ys t h = refl
+ladder-front ((k when true) ∷ xs) ys t h = h
+ladder-front ((k when false) ∷ xs) ys t h = ladder-front xs ys (both-right (ltb 0 k) (numbered xs) t) h
+
 -- not refused: the first test fails, and the rest does not refuse either
 pub ladder-passed : (k : ℕ) (t : Bool) (rest : List Rung) → ladder ((suc k when t) ∷ rest) ≡ 0 → (t ≡ false) × (ladder rest ≡ 0)
 unfolding ladder

@@ -5,3 +5,4 @@ pub mod SumLaws
 pub mod ScatterLaws
 pub mod AnswerLaws
 pub mod PackingLaws
+pub mod SignedLaws

@@ -1,4 +1,4 @@
--- Laws of values put at scattered places: one more, and all of them.
+-- Laws of values put at scattered places: none, one more, and all of them.
 -- Assumes nothing.
 use mathlib.Core.Path.{_≡_, refl, sym, _∙_, ap}
 use mathlib.Core.Bool.{Bool, true, false}
@@ -11,8 +11,8 @@ use lib.ListN.{length, getD, set, length-set}
 use lib.Seq.{getD-set-same, getD-set-other}
 use borrow.Author.Tests.{ltb-true, ltb-false}
 use Rattle.laws.specs.Lists.{filled}
-use Rattle.laws.specs.Scatter.{Seats, Scattered}
-use Rattle.laws.proofs.ListLaws.{filled-at, filled-past, filled-length, filled-ext}
+use Rattle.laws.specs.Scatter.{Seats, Scattered, Placed}
+use Rattle.laws.proofs.ListLaws.{after-set, filled-at, filled-past, filled-length, filled-ext}
 
 pub scattered-none : (base size : ℕ) (table : List ℕ) (v : ℕ → ℕ) (l : List ℕ) → Scattered base size table v 0 l l
 scattered-none base size table v l =
@@ -62,3 +62,50 @@ scattered-all base size table v f back l₀ l′ room seat s =
         let low : base ≤ q = ltb-false q base t in
         let e : base + (q - base) ≡ q = omega arith in
         rw e at (placed (q - base) (omega arith))
+
+pub placed-none : (to v : ℕ → ℕ) (l : List ℕ) → Placed to v 0 l l
+placed-none to v l = record { long = refl; put = λ k h. absurd (not-suc-le-zero h); others = λ m h. refl }
+
+module _ (to v : ℕ → ℕ) (n : ℕ) (l l₁ : List ℕ) (p : Placed to v n l l₁) where
+  -- one value more, at a place that is not taken
+  pub placed-again : (x : ℕ) → x ≡ v n → to n < length l → ((k : ℕ) → k < n → to k ≡ to n → ⊥) → Placed to v (n + 1) l (set l₁ (to n) x)
+  placed-again x e inside apart = record {
+    long = length-set l₁ (to n) x ∙ p .long;
+    put = λ k h. after-set l₁ (to n) x (to k) 0 (v k) (omega (arith, p .long))
+        (λ same. e ∙ ap v (sym (last k h (ltb k n) refl same)))
+        (λ other. p .put k (earlier k h other));
+    others = λ m free.
+        getD-set-other l₁ (to n) m x 0 (λ same. free n (omega arith) (sym same)) ∙ p .others m (λ k h. free k (omega arith));
+  }
+    where
+      last : (k : ℕ) → k < n + 1 → (b : Bool) → ltb k n ≡ b → to k ≡ to n → k ≡ n
+      last k h true t same = absurd (apart k (ltb-true k n t) same)
+      last k h false t same = omega (arith, ltb-false k n t)
+
+      earlier : (k : ℕ) → k < n + 1 → (to k ≡ to n → ⊥) → k < n
+      earlier k h other = go (ltb k n) refl
+        where
+          go : (b : Bool) → ltb k n ≡ b → k < n
+          go true t = ltb-true k n t
+          go false t = let same : k ≡ n = omega (arith, ltb-false k n t) in absurd (other (ap to same))
+
+  -- more values behind them, none of them at a place that is taken
+  pub placed-on : (to′ v′ : ℕ → ℕ) (m : ℕ) (l₂ : List ℕ) → Placed to′ v′ m l₁ l₂
+      → ((k : ℕ) → k < m → (to′ k ≡ to (n + k)) × (v′ k ≡ v (n + k)))
+      → ((j k : ℕ) → j < k → k < n + m → to j ≡ to k → ⊥)
+      → Placed to v (n + m) l l₂
+  placed-on to′ v′ m l₂ q same apart = record {
+    long = q .long ∙ p .long;
+    put = λ k h. put k h (ltb k n) refl;
+    others = λ j free.
+        q .others j (λ k h e. free (n + k) (omega arith) (sym (same k h .0) ∙ e)) ∙ p .others j (λ k h. free k (omega arith));
+  }
+    where
+      put : (k : ℕ) → k < n + m → (b : Bool) → ltb k n ≡ b → getD l₂ (to k) 0 ≡ v k
+      put k h true t =
+          let front : k < n = ltb-true k n t in
+          q .others (to k) (λ j hj e. apart k (n + j) (omega arith) (omega arith) (sym e ∙ same j hj .0)) ∙ p .put k front
+      put k h false t =
+          let e : n + (k - n) ≡ k = omega (arith, ltb-false k n t) in
+          let behind : k - n < m = omega (arith, ltb-false k n t) in
+          rw e at (ap (λ (i : ℕ). getD l₂ i 0) (sym (same (k - n) behind .0)) ∙ q .put (k - n) behind ∙ same (k - n) behind .1)

@@ -4,3 +4,4 @@ pub mod Ladder
 pub mod Scatter
 pub mod Answers
 pub mod Packing
+pub mod Signed

@@ -2,4 +2,16 @@ pub mod SendLaws
 pub mod EncodeLaws
 pub mod IdealLaws
 pub mod PointLaws
+pub mod TrustLaws
+pub mod ReturnLaws
+pub mod OutcomeLaws
 pub mod Determined
+pub mod ChainLaws
+pub mod Composed
+pub mod Demands
+pub mod PassedLaws
+pub mod PickLaws
+pub mod HeardLaws
+pub mod SoftenLaws
+pub mod ReadLaws
+pub mod DecodeLaws

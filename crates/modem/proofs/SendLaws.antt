@@ -16,13 +16,13 @@ use Rattle.modes.specs.Description.{Legal}
 use Rattle.modes.proofs.ModeLaws.{by-enums}
 use Rattle.modes.proofs.SizeLaws.{symbols-exact, sent-within}
 use Rattle.places.specs.Selection.{origin}
-use Rattle.places.specs.Sending.{symbolBits, pduBit, PduRoom}
+use Rattle.places.specs.Sending.{symbolBits, originOf, pduBit, PduRoom}
 use Rattle.places.specs.Trains.{train}
 use Rattle.places.proofs.SelectionLaws.{origin-place}
 use Rattle.places.proofs.SourceLaws.{pdu-sources, pdu-enums}
 use Rattle.places.proofs.TrainLaws.{takes-train}
 use Rattle.coder.specs.Train.{codedBit}
-use Rattle.modem.specs.Encode.{sentBit}
+use Rattle.modem.specs.Encode.{sentOf, sentBit}
 
 module _ (c : Constellation) (rate : Rate) (counter N a : ℕ) (legal : Legal (numberOf c rate) counter N a) where
   -- a train's sent bits by its two enums
@@ -52,7 +52,7 @@ module _ (c : Constellation) (rate : Rate) (counter N a : ℕ) (legal : Legal (n
   read : (octets coded room : List ℕ) → coded ≡ filled (2 * (N + 6)) (codedBit counter N octets) room
       → (q : ℕ) → q < sentBits (numberOf c rate) N
       → pduBit (bitsOf c) rate a 0 coded q ≡ codedBit counter N octets (origin (train (numberOf c rate) a) q)
-  unfolding pduBit train origin
+  unfolding pduBit originOf train origin
   read octets coded room e q h =
       let fit = legal .fit in
       let takes = takes-train (numberOf c rate) N a (fit .from-1) (fit .to-7) (fit .whole-symbols) (legal .inside) in
@@ -64,5 +64,5 @@ module _ (c : Constellation) (rate : Rate) (counter N a : ℕ) (legal : Legal (n
       → coded ≡ filled (2 * (N + 6)) (codedBit counter N octets) room
       → sent′ ≡ filled (symbolBits (bitsOf c) (symbols (numberOf c rate) N)) (pduBit (bitsOf c) rate a 0 coded) sent
       → sent′ ≡ filled (sentBits (numberOf c rate) N) (sentBit (numberOf c rate) counter N a octets) sent
-  unfolding sentBit
+  unfolding sentBit sentOf codedBit
   train-sent octets coded room sent sent′ ec es = es ∙ rw sent-by-enums (filled-same _ _ _ sent (read octets coded room ec))

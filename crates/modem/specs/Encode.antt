@@ -1,5 +1,6 @@
 -- What `encode` promises.
---   sentBit        sent bit q of a train: demand 2
+--   sentOf         sent bit q of a scrambled train
+--   sentBit        sent bit q of a train's octets: demand 2
 --   encodeRefusal  its refusals, 1 to 8
 --   Encode         its answer, and what it leaves in the lent buffer
 -- Assumes nothing.
@@ -15,11 +16,16 @@ use Rattle.modes.specs.Sizes.{sentBits, octetsOf}
 use Rattle.modes.specs.Refusals.{described}
 use Rattle.places.specs.Selection.{origin}
 use Rattle.places.specs.Trains.{train}
-use Rattle.coder.specs.Train.{codedBit}
+use Rattle.coder.specs.Scrambler.{scrambled}
+use Rattle.coder.specs.Encoder.{tailed, coded}
 
--- sent bit q of a train: the coded bit that P1, P2 and the interleaver put there
+-- sent bit q of a scrambled train: tailed and coded, the coded bit that P1, P2 and the interleaver put there
+unfoldable pub sentOf : (mode a : ℕ) → List ℕ → ℕ → ℕ
+sentOf mode a w q = coded (tailed w) (origin (train mode a) q)
+
+-- sent bit q of a train's octets
 unfoldable pub sentBit : (mode counter N a : ℕ) → List ℕ → ℕ → ℕ
-sentBit mode counter N a octets q = codedBit counter N octets (origin (train mode a) q)
+sentBit mode counter N a octets q = sentOf mode a (scrambled counter N octets) q
 
 -- refusals 1 to 6, then 7 for the octets and 8 for the room for sent bits
 unfoldable pub encodeRefusal : (mode counter N a : ℕ) → (octets sent : List ℕ) → ℕ

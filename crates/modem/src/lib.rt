@@ -1,10 +1,18 @@
 // THE PUBLIC CALLS. Each tests what it is given, answers bad input with the refusal number of document 01, in the table's
 // order, and then leaves every lent buffer as it was. None has a `requires`; the promise of each is one definition of specs/.
+// The far end is in decode.rt and readings.rt.
+mod decode;
+mod readings;
+
+pub use decode::Answer;
+pub use decode::decode_soft;
 use modes::Train;
 use points::Point;
+pub use readings::decode_readings;
+pub use readings::soften;
 ghost use mathlib.Core.Path.{_≡_};
 ghost use Prim.Native.Nat.{_≤_};
-ghost use lib.ListN.{length};
+ghost use lib.ListN.{length, replicate};
 ghost use Rattle.laws.specs.Lists.{filled};
 ghost use Rattle.modes.specs.Modes.{number};
 ghost use Rattle.modes.specs.Sizes.{sentBits, octetsOf};
@@ -21,7 +29,7 @@ pub struct Mapping {
 
 // Room for the coded bits of the longest train.
 fn coded_room() -> [u8; 6924]
-    ensures { λ r. ⌜ length r ≡ 6924 ⌝ }
+    ensures { λ r. ⌜ (length r ≡ 6924) × (r ≡ replicate 6924 0) ⌝ }
 {
     [0; 6924]
 }

@@ -6,3 +6,5 @@ pub mod OriginLaws
 pub mod StepLaws
 pub mod SendLaws
 pub mod SourceLaws
+pub mod CountedLaws
+pub mod SpreadLaws

@@ -21,15 +21,15 @@ use Rattle.places.specs.Selection.{origin}
 use Rattle.places.specs.Puncture.{P1, P2}
 use Rattle.places.specs.Interleaver.{placeInSymbol, noPlaces, placesOf, seated, interleaver}
 use Rattle.places.specs.Trains.{pduBy}
-use Rattle.places.specs.Sending.{sourceOf, Sources, symbolBits, pduBit}
+use Rattle.places.specs.Sending.{sourceOf, Sources, symbolBits, originOf, pduBit}
 use Rattle.places.proofs.SymbolLaws.{seated-length, symbol-place-within, symbol-place-back, symbol-back-within, symbol-back-place}
 
 -- a symbol of S bits: places and bits take each other back
-record Seating (S b : ℕ) : Type 0 where
-  within : (k : ℕ) → k < S → placeInSymbol S b k < S
-  back : (k : ℕ) → k < S → getD (seated S b S) (placeInSymbol S b k) 0 ≡ k
-  back-within : (j : ℕ) → j < S → getD (seated S b S) j 0 < S
-  forth : (j : ℕ) → j < S → placeInSymbol S b (getD (seated S b S) j 0) ≡ j
+pub record Seating (S b : ℕ) : Type 0 where
+  pub within : (k : ℕ) → k < S → placeInSymbol S b k < S
+  pub back : (k : ℕ) → k < S → getD (seated S b S) (placeInSymbol S b k) 0 ≡ k
+  pub back-within : (j : ℕ) → j < S → getD (seated S b S) j 0 < S
+  pub forth : (j : ℕ) → j < S → placeInSymbol S b (getD (seated S b S) j 0) ≡ j
 
 by-number : (k : ℕ) → 1 ≤ k → k ≤ 7 → Seating (sent k) (bits k)
 by-number k low high =
@@ -48,11 +48,11 @@ seating Qam16 = by-number 5 (lit≤ tt) (lit≤ tt)
 seating Qam64 = by-number 7 (lit≤ tt) (lit≤ tt)
 
 -- an entry of the table of places
-places-at : (S b k : ℕ) → k < S → getD (placesOf S b) k 0 ≡ placeInSymbol S b k
+pub places-at : (S b k : ℕ) → k < S → getD (placesOf S b) k 0 ≡ placeInSymbol S b k
 unfolding placesOf
 places-at S b k h = filled-at S (placeInSymbol S b) noPlaces k 0 h
 
-seated-by : (c : Constellation) (b : ℕ) → b ≡ bitsOf c → Seating (48 * b) b
+pub seated-by : (c : Constellation) (b : ℕ) → b ≡ bitsOf c → Seating (48 * b) b
 seated-by c b e = subst (λ (n : ℕ). Seating (48 * n) n) (sym e) (seating c)
 
 pub seats : (c : Constellation) (b : ℕ) → b ≡ bitsOf c → Seats (placesOf (48 * b) b) (48 * b)
@@ -71,7 +71,7 @@ seats c b e = go (48 * b) b (seated-by c b e)
         }
 
 -- bit j of symbol s, by the interleaver
-interleaver-origin : (S b s j : ℕ) → j < S → origin (interleaver S b) (s * S + j) ≡ s * S + getD (seated S b S) j 0
+pub interleaver-origin : (S b s j : ℕ) → j < S → origin (interleaver S b) (s * S + j) ≡ s * S + getD (seated S b S) j 0
 unfolding origin interleaver
 interleaver-origin S b s j h = rw (seated-length S b S, digits-div s h, digits-mod s h, mul-comm S s) refl
 
@@ -84,7 +84,11 @@ symbol-inside c b e s symbols base counted h =
 -- sources of more bits are sources of fewer
 pub sources-fewer : (rate : Rate) (a first n m coded : ℕ) → m ≤ n → Sources rate a first n coded → Sources rate a first m coded
 sources-fewer rate a first n m coded less s =
-    record { punctured = λ q h. s .punctured q (omega arith); present = λ q h. s .present q (omega arith) }
+    record {
+      punctured = λ q h. s .punctured q (omega arith);
+      present = λ q h. s .present q (omega arith);
+      apart = λ p q more h. s .apart p q more (omega arith);
+    }
 
 -- s symbols are sent
 pub record Sent (b : ℕ) (rate : Rate) (a first : ℕ) (coded l₀ l : List ℕ) (s base : ℕ) : Type 0 where
@@ -102,7 +106,7 @@ module _ (c : Constellation) (b : ℕ) (e : b ≡ bitsOf c) (rate : Rate) (a fir
       → Sent b rate a first coded l₀ l s base
       → Scattered base (48 * b) (placesOf (48 * b) b) (λ k. getD coded (sourceOf rate a first (base + k)) 0) (48 * b) l l′
       → Sent b rate a first coded l₀ l′ (s + 1) (base + 48 * b)
-  unfolding sourceOf pduBit pduBy origin
+  unfolding sourceOf pduBit originOf pduBy origin
   sent-again l l′ s base room before h =
       let S = 48 * b in
       let seat = seated-by c b e in

@@ -1,11 +1,13 @@
-// Which coded bit is sent where: P1, P2 and the interleaver as one selection, and the sent bits by it.
+// Which coded bit is sent where: P1, P2 and the interleaver as one selection; the sent bits by it, and (spread.rt) soft bytes back.
 // The functions are for one PDU, whose share of P1's output begins at `first`; a train of one mode is one PDU from 0 on.
 // They refuse nothing: their callers have tested what they lend.
 mod interleaver;
 mod puncture;
+mod spread;
 
 use modes::Mode;
 use modes::Rate;
+pub use spread::spread_pdu;
 ghost use mathlib.Core.Path.{_≡_};
 ghost use Prim.Native.Nat.{_+_, _≤_};
 ghost use lib.ListN.{length, getD};

@@ -17,6 +17,7 @@ use mir.ValLaws.{toZ-ofZ}
 use borrow.Author.Tests.{ne-eqb}
 use Rattle.laws.specs.Lists.{choose, tabulate}
 use Rattle.laws.proofs.ListLaws.{tabulate-at}
+use Rattle.laws.proofs.SignedLaws.{kept}
 use Rattle.modes.specs.declared.Constellation.{Constellation}
 use Rattle.points.specs.Levels.{Entry, _gives_, one, two, three, table, level, widthI, widthQ, levelI, levelQ}
 use Rattle.points.specs.Points.{reading}
@@ -73,16 +74,12 @@ fitsQ c g = given-fits (tables-fair (widthQ c)) (g % 2 ^ widthQ c)
 pub shifted : (w : ℕ) → w < 64 → 1 * 2 ^ w % 2 ^ 64 ≡ 2 ^ w
 shifted w h = shl-exact 1 w 64 (lit< tt) (omega arith) ∙ one-mul (2 ^ w)
 
--- a signed 16-bit number that the code passes on is the same
-pub passed : (z : ℤ) {l : ℤ} → mag z < 2 ^ 15 → z ≡ l → toZ w16 (ofZ w16 z) ≡ l
-passed z h e = toZ-ofZ w16 z (record { sfits = h }) ∙ e
-
 -- z holds the level l, whose reading is a signed 16-bit number: the code's product fits and is that reading
 module _ (z : ℤ) {l : ℤ} (small : mag z < 2 ^ 15) (holds : z ≡ l) (fits : SFits w16 (reading l)) where
   pub product-fits : SFits w16 (pos 256 *ℤ toZ w16 (ofZ w16 z))
   unfolding reading
-  product-fits = rw (passed z small holds) fits
+  product-fits = rw (kept w16 z small holds) fits
 
   pub product-is : toZ w16 (ofZ w16 (pos 256 *ℤ toZ w16 (ofZ w16 z))) ≡ reading l
   unfolding reading
-  product-is = rw (passed z small holds) (toZ-ofZ w16 (reading l) fits)
+  product-is = rw (kept w16 z small holds) (toZ-ofZ w16 (reading l) fits)

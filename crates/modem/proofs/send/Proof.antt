@@ -19,7 +19,7 @@ code-requires : tie.Need-code-requires
 code-requires c κs =
     let start = c .before .before .before .before .before .before in
     let legal = start .pre .0 in
-    (omega (arith, legal .to-15), legal .fit .to-3456, train-octets _ _ _ _ _ legal (start .args .octets .now) (start .pre .1 .0), omega (arith, legal .fit .to-3456, c .before .coded-room .ensures))
+    (omega (arith, legal .to-15), legal .fit .to-3456, train-octets _ _ _ _ _ legal (start .args .octets .now) (start .pre .1 .0), omega (arith, legal .fit .to-3456, c .before .coded-room .ensures .0))
 
 slice-aggregate-send-pdu : tie.Need-slice-aggregate-send-pdu
 slice-aggregate-send-pdu c = search needs
@@ -28,7 +28,7 @@ send-pdu-requires : tie.Need-send-pdu-requires
 send-pdu-requires c κs =
     let start = c .before .before .before .before .before .before .before .before .before .before in
     let legal = start .pre .0 in
-    let coded = c .before .before .before .before .before .coded-room .ensures in
+    let coded = c .before .before .before .before .before .coded-room .ensures .0 in
     let long = c .before .before .before .code .kept .1 .1 .1 .0 in
     rw (c .before .before .before .before .before .before .symbols-of .ensures .0) (train-room _ _ _ _ _ legal _ _ (omega (arith, legal .fit .to-3456, long, coded)) (start .pre .1 .1))
 

@@ -2,7 +2,8 @@
 -- Assumes nothing.
 use native.Mathlib.Omega.{arith}
 use Rattle.points.specs.Levels.{widthI, widthQ, levelI}
-use Rattle.points.proofs.LevelLaws.{passed}
+use mir.Syntax.{w16}
+use Rattle.laws.proofs.SignedLaws.{kept}
 use Rattle.points.proofs.level_i.Statement.{statement}
 use Rattle.points.proofs.level_i.Tie as tie
 
@@ -23,7 +24,7 @@ level-of-requires c κs = omega arith
 
 returns : tie.Need-returns
 unfolding levelI widthI widthQ
-returns c = passed (c .level-of .result) (c .level-of .ok) (cc)
+returns c = kept w16 (c .level-of .result) (c .level-of .ok) (cc)
 
 pub level-i-spec : {M : Type 1} → statement M
 level-i-spec =

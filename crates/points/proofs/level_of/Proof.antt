@@ -4,7 +4,9 @@ use mathlib.Core.Path.{refl}
 use borrow.Author.Needs.{needs}
 use Rattle.laws.specs.Lists.{tabulate}
 use Rattle.points.specs.Levels.{one, two, three, table, level}
-use Rattle.points.proofs.LevelLaws.{rows, none-past, passed}
+use mir.Syntax.{w16}
+use Rattle.laws.proofs.SignedLaws.{kept}
+use Rattle.points.proofs.LevelLaws.{rows, none-past}
 use Rattle.points.proofs.level_of.Statement.{statement}
 use Rattle.points.proofs.level_of.Tie as tie
 
@@ -24,7 +26,7 @@ returns : tie.Need-returns
 unfolding tabulate one two three table level
 returns c =
     let start = c .before .before in
-    passed _ (c .result .given)
+    kept w16 _ (c .result .given)
     (rows _ refl (start .args .width) (start .args .bits) (start .pre) (c .before .if1 .taken))
 
 returns-2 : tie.Need-returns-2

@@ -4,7 +4,9 @@ use Prim.Native.Nat.{_/_}
 use native.Mathlib.Omega.{arith}
 use lib.Pow.{pow-pos}
 use Rattle.points.specs.Levels.{widthQ, levelQ}
-use Rattle.points.proofs.LevelLaws.{shifted, passed}
+use mir.Syntax.{w16}
+use Rattle.laws.proofs.SignedLaws.{kept}
+use Rattle.points.proofs.LevelLaws.{shifted}
 use Rattle.points.proofs.level_q.Statement.{statement}
 use Rattle.points.proofs.level_q.Tie as tie
 
@@ -28,7 +30,7 @@ level-of-requires c κs = omega arith
 returns : tie.Need-returns
 unfolding levelQ widthQ
 returns c =
-    passed (c .level-of .result) (c .level-of .ok)
+    kept w16 (c .level-of .result) (c .level-of .ok)
     (cc (shifted (c .before .bits-per-carrier .result / 2) (omega arith)))
 
 pub level-q-spec : {M : Type 1} → statement M

@@ -2,7 +2,8 @@
 -- Assumes nothing.
 use borrow.Author.Needs.{needs}
 use Rattle.points.specs.Points.{part}
-use Rattle.points.proofs.LevelLaws.{passed}
+use mir.Syntax.{w16}
+use Rattle.laws.proofs.SignedLaws.{kept}
 use Rattle.points.proofs.point_of.Statement.{statement}
 use Rattle.points.proofs.point_of.Tie as tie
 
@@ -27,7 +28,7 @@ returns c =
     let k = c .before .before .before .before .scale in
     let i = c .before .before .before .level-i in
     let q = c .before .level-q in
-    (rw (passed _ (i .ok) (i .ensures), k .ensures), rw (passed _ (q .ok) (q .ensures), k .ensures))
+    (rw (kept w16 _ (i .ok) (i .ensures), k .ensures), rw (kept w16 _ (q .ok) (q .ensures), k .ensures))
 
 pub point-of-spec : {M : Type 1} → statement M
 point-of-spec =

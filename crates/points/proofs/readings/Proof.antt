@@ -7,7 +7,8 @@ use lib.ListN.{length, length-set}
 use Rattle.laws.proofs.ListLaws.{filled-none, filled-put}
 use Rattle.points.specs.Points.{Ideal, idealI, idealQ}
 use Rattle.points.proofs.BitLaws.{group-within}
-use Rattle.points.proofs.LevelLaws.{passed}
+use mir.Syntax.{w16}
+use Rattle.laws.proofs.SignedLaws.{kept}
 use Rattle.points.proofs.readings.Statement.{statement}
 use Rattle.points.proofs.readings.Tie as tie
 
@@ -50,8 +51,8 @@ loop-again c =
       simp length-set (omega arith),
       simp length-set (omega arith),
       record {
-        onI = filled-put _ (idealI _ _) _ _ _ (so-far .onI) (passed (r .result .i) (omega arith) (r .ensures .0)) (omega arith);
-        onQ = filled-put _ (idealQ _ _) _ _ _ (so-far .onQ) (passed (r .result .q) (omega arith) (r .ensures .1)) (omega arith);
+        onI = filled-put _ (idealI _ _) _ _ _ (so-far .onI) (kept w16 (r .result .i) (omega arith) (r .ensures .0)) (omega arith);
+        onQ = filled-put _ (idealQ _ _) _ _ _ (so-far .onQ) (kept w16 (r .result .q) (omega arith) (r .ensures .1)) (omega arith);
       },
     )
 

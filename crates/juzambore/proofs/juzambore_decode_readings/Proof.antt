@@ -1,0 +1,24 @@
+-- `juzambore_decode_readings` answers what `modem::decode_readings` answers, its mark as 1 or 0.
+-- Assumes nothing.
+use borrow.Author.Needs.{needs}
+use Rattle.juzambore.proofs.juzambore_decode_readings.Statement.{statement}
+use Rattle.juzambore.proofs.juzambore_decode_readings.Tie as tie
+
+decode-readings-requires : tie.Need-decode-readings-requires
+decode-readings-requires c κs = search needs
+
+flag-requires : tie.Need-flag-requires
+flag-requires c κs = search needs
+
+same-length : tie.Need-same-length
+same-length c = search needs
+
+same-length-2 : tie.Need-same-length-2
+same-length-2 c = search needs
+
+returns : tie.Need-returns
+returns c = (rw (c .flag .ensures .1) (c .before .before .before .before .before .decode-readings .ensures), c .flag .ensures .0)
+
+pub juzambore-decode-readings-spec : {M : Type 1} → statement M
+juzambore-decode-readings-spec =
+    tie.close (tie.spec decode-readings-requires flag-requires same-length same-length-2 returns)

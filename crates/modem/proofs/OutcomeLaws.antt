@@ -1,0 +1,47 @@
+-- One outcome is wanted: of two trains that are returned each is the other, and bits determine octets.
+-- Assumes nothing.
+use mathlib.Core.Path.{_≡_, refl, sym, _∙_, ap, ap₂, subst}
+use mathlib.Core.Bool.{Bool, true, false}
+use mathlib.Core.List.{List, _++_}
+use Prim.Native.Nat.{ℕ, _%_}
+use lib.IntN.{ℤ}
+use lib.ListN.{take, take-append-drop}
+use Rattle.modes.specs.Sizes.{octetsOf}
+use Rattle.trellis.specs.Wanted.{Confirmed}
+use Rattle.trellis.proofs.WantedLaws.{returned-unique}
+use Rattle.unique.proofs.OctetLaws.{octets-back}
+use Rattle.modem.specs.Costs.{roundedCost, differing}
+use Rattle.modem.specs.Decode.{Outcome, trainOf, Decoded}
+
+-- of two marks that each say whether something holds, each is the other
+same-mark : (x y : Bool) (A : Type 0) → (x ≡ true → A) → (A → x ≡ true) → (y ≡ true → A) → (A → y ≡ true) → x ≡ y
+same-mark true y A to from to′ from′ = sym (from′ (to refl))
+same-mark false true A to from to′ from′ = from (to′ refl)
+same-mark false false A to from to′ from′ = refl
+
+module _ (mode counter N a : ℕ) (soft : List ℤ) (octets words : List ℕ) (whole : N % 8 ≡ 0) where
+  pub decoded-one : (x y : Outcome) → Decoded mode counter N a soft octets words x → Decoded mode counter N a soft octets words y → x ≡ y
+  unfolding trainOf
+  decoded-one x y dx dy =
+      let cx = dx .chosen in
+      let cy = dy .chosen in
+      let same-train : trainOf counter N (x .octets) ≡ trainOf counter N (y .octets) = returned-unique (cx .returned) (cy .returned) in
+      let front : take (octetsOf N) (x .octets) ≡ take (octetsOf N) (y .octets) = octets-back counter N whole _ _ (cx .octets-low) (cy .octets-low) same-train in
+      let same-octets : x .octets ≡ y .octets =
+      sym (take-append-drop (octetsOf N) (x .octets)) ∙ ap₂ _++_ front (cx .kept ∙ sym (cy .kept)) ∙ take-append-drop (octetsOf N) (y .octets)
+      in
+      let same-cost : x .cost ≡ y .cost = cx .costs ∙ ap (roundedCost mode N a soft) same-train ∙ sym (cy .costs) in
+      let same-confirmed : x .confirmed ≡ y .confirmed =
+      same-mark _ _ (Confirmed N (roundedCost mode N a soft) (differing mode N a) (trainOf counter N (x .octets))) (cx .only-then) (cx .always-then)
+      (λ t. subst (Confirmed N (roundedCost mode N a soft) (differing mode N a)) (sym same-train) (cy .only-then t))
+      (λ t. cy .always-then (subst (Confirmed N (roundedCost mode N a soft) (differing mode N a)) same-train t))
+      in
+      λ t.
+      record {
+        symbols = (dx .all-symbols ∙ sym (dy .all-symbols)) t;
+        n = (dx .all-sent ∙ sym (dy .all-sent)) t;
+        cost = same-cost t;
+        confirmed = same-confirmed t;
+        octets = same-octets t;
+        words = (cx .zeroed ∙ sym (cy .zeroed)) t;
+      }

@@ -1,0 +1,71 @@
+-- The train that the search returns, descrambled into octets, is the one that is wanted of octets.
+-- Assumes nothing.
+use mathlib.Core.Path.{_≡_, sym, _∙_, ap, subst}
+use mathlib.Core.Bool.{Bool}
+use mathlib.Core.List.{List}
+use Prim.Native.Nat.{ℕ, _/_, _%_}
+use lib.ListN.{take, drop}
+use Rattle.laws.specs.Lists.{tabulate, filled}
+use Rattle.laws.proofs.ListLaws.{tabulate-length, tabulate-at, filled-take, filled-drop}
+use Rattle.modes.specs.Sizes.{octetsOf}
+use Rattle.coder.specs.Scrambler.{scrambled, octetAt}
+use Rattle.coder.proofs.OctetLaws.{octet-low, scrambled-back}
+use Rattle.trellis.specs.Wanted.{Returned, Confirmed}
+use Rattle.trellis.specs.Heard.{trainCost, differing}
+use Rattle.trellis.proofs.WantedLaws.{returned-same-cost, confirmed-same}
+use Rattle.search.specs.Bytes.{costOf, heardOf}
+use Rattle.search.specs.Promises.{Searched, Marked}
+use Rattle.unique.specs.Sameness.{Octets}
+use Rattle.modem.specs.Decode.{trainOf, Chosen}
+
+module _ (counter n : ℕ) (octets octets′ w : List ℕ) (written : octets′ ≡ filled (n / 8) (octetAt counter w) octets) where
+  front : take (octetsOf n) octets′ ≡ tabulate (n / 8) (octetAt counter w)
+  unfolding octetsOf
+  front = ap (take (n / 8)) written ∙ filled-take (n / 8) (octetAt counter w) octets
+
+  behind : drop (octetsOf n) octets′ ≡ drop (octetsOf n) octets
+  unfolding octetsOf
+  behind = ap (drop (n / 8)) written ∙ filled-drop (n / 8) (octetAt counter w) octets
+
+  low : Octets (octetsOf n) (take (octetsOf n) octets′)
+  unfolding octetsOf
+  low = rw front (record {
+    count = tabulate-length (n / 8) _;
+    low = λ j h. rw (tabulate-at (n / 8) (octetAt counter w) j 0 h) (octet-low counter w j);
+  })
+
+  pub pick-chosen : (heard before words words′ : List ℕ) (cost : ℕ) (confirmed : Bool) → n % 8 ≡ 0
+      → Searched n heard before w words words′ cost → Marked n heard (take n w) confirmed
+      → Chosen counter n (trainCost (costOf heard) n) (differing (heardOf heard) n) octets words cost confirmed octets′ words′
+  unfolding trainOf
+  pick-chosen heard before words words′ cost confirmed whole s m =
+      let e : trainOf counter n octets′ ≡ take n w = ap (scrambled counter n) front ∙ scrambled-back counter n w whole (s .returned .train) in
+      record {
+        returned = subst (Returned n (trainCost (costOf heard) n)) (sym e) (s .returned);
+        costs = s .costs ∙ ap (trainCost (costOf heard) n) (sym e);
+        only-then = λ t. subst (Confirmed n (trainCost (costOf heard) n) (differing (heardOf heard) n)) (sym e) (m .only-then t);
+        always-then = λ t. m .always-then (subst (Confirmed n (trainCost (costOf heard) n) (differing (heardOf heard) n)) e t);
+        octets-low = low;
+        kept = behind;
+        zeroed = s .zeroed;
+      }
+
+-- what is chosen depends on the costs and the counts alone
+pub chosen-same : (counter N : ℕ) (cost cost′ : List ℕ → ℕ) (count count′ : List ℕ → List ℕ → ℕ) (octets words octets′ words′ : List ℕ)
+    (c : ℕ) (confirmed : Bool)
+    → ((v : List ℕ) → cost v ≡ cost′ v) → ((w v : List ℕ) → count w v ≡ count′ w v)
+    → Chosen counter N cost count octets words c confirmed octets′ words′
+    → Chosen counter N cost′ count′ octets words c confirmed octets′ words′
+chosen-same counter N cost cost′ count count′ octets words octets′ words′ c confirmed same-cost same-count h =
+    let w : List ℕ = trainOf counter N octets′ in
+    let train = h .returned .train in
+    record {
+      returned = returned-same-cost (λ v _. same-cost v) (h .returned);
+      costs = h .costs ∙ same-cost w;
+      only-then = λ t. confirmed-same N cost cost′ count count′ w train (λ v _. same-cost v) (λ v _. same-count w v) (h .only-then t);
+      always-then = λ t. h .always-then
+          (confirmed-same N cost′ cost count′ count w train (λ v _. sym (same-cost v)) (λ v _. sym (same-count w v)) t);
+      octets-low = h .octets-low;
+      kept = h .kept;
+      zeroed = h .zeroed;
+    }

@@ -1,0 +1,103 @@
+-- What `decode_soft` and `decode_readings` promise.
+--   Outcome          what a decode reports beside its refusal, and what it leaves in the lent buffers
+--   outcome          the same by its parts
+--   nothing          the outcome of a refused call
+--   trainOf          the train that octets stand for: scrambled
+--   Chosen           what is wanted of a train that is chosen, its cost and its mark
+--   Decoded          the outcome that is wanted
+--   Tells            the fields of an answer, one by one
+--   softRefusal      the refusals of `decode_soft`, 1 to 9
+--   DecodeSoft       its answer and outcome
+--   readingsRefusal  the refusals of `decode_readings`, 1 to 8
+--   DecodeReadings   its answer and outcome: that of the soft bytes of the readings
+-- Assumes nothing.
+use mathlib.Core.Path.{_≡_}
+use Prim.Native.Nat.{ℕ, _+_}
+use mathlib.Core.Bool.{Bool, true, false, not}
+use mathlib.Core.List.{List, _++_}
+use lib.Dec.{eqb}
+use lib.IntN.{ℤ}
+use lib.ListN.{length, take, drop}
+use Rattle.laws.specs.Ladder.{ladder}
+use Rattle.laws.specs.Lists.{filled}
+use Rattle.laws.specs.Answers.{Leaves}
+use Rattle.modes.specs.Sizes.{symbols, sentBits, octetsOf}
+use Rattle.modes.specs.Refusals.{described}
+use Rattle.coder.specs.Scrambler.{scrambled}
+use Rattle.trellis.specs.Wanted.{Returned, Confirmed}
+use Rattle.unique.specs.Sameness.{Octets}
+use Rattle.soft.specs.Carriers.{allSoft}
+use Rattle.modem.specs.Lent.{lent, readingsWrong, roomShort}
+use Rattle.modem.specs.Soften.{softened}
+use Rattle.modem.specs.Costs.{roundedCost, differing}
+
+-- symbols, n, rounded cost and mark; the octets and the working words
+pub record Outcome : Type 0 where
+  pub symbols : ℕ
+  pub n : ℕ
+  pub cost : ℕ
+  pub confirmed : Bool
+  pub octets : List ℕ
+  pub words : List ℕ
+
+-- an outcome by its parts
+abbrev pub outcome : (symbols n cost : ℕ) → Bool → (octets words : List ℕ) → Outcome
+outcome symbols n cost confirmed octets words =
+    record { symbols = symbols; n = n; cost = cost; confirmed = confirmed; octets = octets; words = words }
+
+-- a refused call reports zero for every count and cost and no confirmation, and changes no octet and no word
+abbrev pub nothing : (octets words : List ℕ) → Outcome
+nothing octets words = outcome 0 0 0 false octets words
+
+-- the train that N/8 octets at the front of a buffer stand for
+unfoldable pub trainOf : (counter N : ℕ) → List ℕ → List ℕ
+trainOf counter N octets = scrambled counter N (take (octetsOf N) octets)
+
+-- of all trains of N bits, by some cost and some count of differing bits: the octets, scrambled, are the one of least cost, of equals the
+-- one by the rule; the cost is its cost; it is marked confirmed exactly when it is; octets behind N/8 are as they were; N + 6 words are
+-- zero, and those behind them as they were
+pub record Chosen (counter N : ℕ) (cost : List ℕ → ℕ) (differing : List ℕ → List ℕ → ℕ) (octets words : List ℕ)
+    (c : ℕ) (confirmed : Bool) (octets′ words′ : List ℕ) : Type 0 where
+  pub returned : Returned N cost (trainOf counter N octets′)
+  pub costs : c ≡ cost (trainOf counter N octets′)
+  pub only-then : confirmed ≡ true → Confirmed N cost differing (trainOf counter N octets′)
+  pub always-then : Confirmed N cost differing (trainOf counter N octets′) → confirmed ≡ true
+  pub octets-low : Octets (octetsOf N) (take (octetsOf N) octets′)
+  pub kept : drop (octetsOf N) octets′ ≡ drop (octetsOf N) octets
+  pub zeroed : words′ ≡ filled (N + 6) (λ _. 0) words
+
+-- chosen by the rounded cost of the sent bits, all of them heard; and the train's symbols and sent bits
+pub record Decoded (mode counter N a : ℕ) (soft : List ℤ) (octets words : List ℕ) (o : Outcome) : Type 0 where
+  pub chosen : Chosen counter N (roundedCost mode N a soft) (differing mode N a) octets words (o .cost) (o .confirmed) (o .octets) (o .words)
+  pub all-symbols : o .symbols ≡ symbols mode N
+  pub all-sent : o .n ≡ sentBits mode N
+
+-- what a call tells: the refusal k, s symbols, n sent bits, the cost c and the mark m
+pub record Tells (k s n c : ℕ) (m : Bool) (refusal symbols sent cost : ℕ) (confirmed : Bool) : Type 0 where
+  pub refusal-is : refusal ≡ k
+  pub symbols-is : symbols ≡ s
+  pub sent-is : sent ≡ n
+  pub cost-is : cost ≡ c
+  pub mark-is : confirmed ≡ m
+
+-- refusals 1 to 6, then 7 for the soft bytes, 8, and 9 for a soft byte outside -80 to 80
+unfoldable pub softRefusal : (mode counter N a : ℕ) → List ℤ → (octets words : List ℕ) → ℕ
+softRefusal mode counter N a soft octets words =
+    ladder
+    (described mode counter N a
+    ++ lent (not (eqb (length soft) (sentBits mode N))) (roomShort N octets words) (not (allSoft soft)))
+
+-- the answer r and the outcome o of decoding soft bytes
+unfoldable pub DecodeSoft : (mode counter N a : ℕ) → List ℤ → (octets words : List ℕ) → (r : ℕ) → Outcome → Type 0
+DecodeSoft mode counter N a soft octets words =
+    Leaves (softRefusal mode counter N a soft octets words) (Decoded mode counter N a soft octets words) (nothing octets words)
+
+-- refusals 1 to 6, then 7 for the readings of I and of Q, and 8
+unfoldable pub readingsRefusal : (mode counter N a : ℕ) → (i q : List ℤ) → (octets words : List ℕ) → ℕ
+readingsRefusal mode counter N a i q octets words =
+    ladder (described mode counter N a ++ lent (readingsWrong mode N i q) (roomShort N octets words) false)
+
+-- the answer r and the outcome o of decoding readings: their soft bytes are decoded
+unfoldable pub DecodeReadings : (mode counter N a : ℕ) → (i q : List ℤ) → (octets words : List ℕ) → (r : ℕ) → Outcome → Type 0
+DecodeReadings mode counter N a i q octets words =
+    Leaves (readingsRefusal mode counter N a i q octets words) (Decoded mode counter N a (softened mode N i q) octets words) (nothing octets words)

@@ -1,0 +1,63 @@
+-- THE THREE DEMANDS, in the customer's words, of what a call answers and leaves. Demands.antt of proofs/ shows each from the calls' promises.
+--   RefusesAs      1: which refusal a call gives, and that it then leaves everything as it was
+--   SentAs         2: the n sent bits are those that document 01 fixes, and what lies behind them is as it was
+--   PointAs        2: the point is the level times K on each axis
+--   ReturnedAs     2: of all trains of N bits the one of least rounded cost, of equals the one by the rule
+--   GivenBack      2: what went in at the one end came out at the other, at no cost and confirmed
+--   Trusted        3: how far the returned train can be trusted
+-- Assumes nothing.
+use mathlib.Core.Path.{_≡_}
+use mathlib.Core.Bool.{true}
+use mathlib.Core.Logic.{_≢_}
+use mathlib.Core.List.{List}
+use Prim.Native.Nat.{ℕ, _+_, _*_, _≤_, _<_}
+use lib.Ieee.{Float}
+use lib.IntN.{ℤ}
+use lib.ListN.{getD, take, drop}
+use Rattle.modes.specs.Modes.{constellationOf}
+use Rattle.modes.specs.Sizes.{sentBits, octetsOf}
+use Rattle.coder.specs.Train.{Train}
+use Rattle.points.specs.Levels.{levelI, levelQ}
+use Rattle.points.specs.Points.{part}
+use Rattle.trellis.specs.Wanted.{Returned, Confirmed}
+use Rattle.modem.specs.Encode.{sentBit}
+use Rattle.modem.specs.Soften.{softened}
+use Rattle.modem.specs.Costs.{roundedCost, exactCost, differing}
+use Rattle.modem.specs.Decode.{Outcome, trainOf}
+
+-- the answer is the number of the first test that holds, 0 where none does; where it is a refusal, what is left is what there was
+pub record RefusesAs {B : Type 0} (number : ℕ) (before : B) (r : ℕ) (left : B) : Type 0 where
+  pub which : r ≡ number
+  pub leaves : r ≢ 0 → left ≡ before
+
+-- sent bit q is the coded bit of the scrambled and tailed train that P1, P2 and the interleaver put there
+pub record SentAs (mode counter N a : ℕ) (octets sent sent′ : List ℕ) : Type 0 where
+  pub bits : (q : ℕ) → q < sentBits mode N → getD sent′ q 0 ≡ sentBit mode counter N a octets q
+  pub kept : drop (sentBits mode N) sent′ ≡ drop (sentBits mode N) sent
+
+-- each part is the level times K by one f32 multiplication
+pub record PointAs (mode group : ℕ) (i q : Float) : Type 0 where
+  pub on-i : i ≡ part (constellationOf mode) (levelI (constellationOf mode) group)
+  pub on-q : q ≡ part (constellationOf mode) (levelQ (constellationOf mode) group)
+
+-- the octets stand for the train of N bits that is wanted by these soft bytes, and the cost is that train's
+pub record ReturnedAs (mode counter N a : ℕ) (soft : List ℤ) (o : Outcome) : Type 0 where
+  pub returned : Returned N (roundedCost mode N a soft) (trainOf counter N (o .octets))
+  pub costs : o .cost ≡ roundedCost mode N a soft (trainOf counter N (o .octets))
+
+-- the octets came back, at no cost and confirmed
+pub record GivenBack (N : ℕ) (octets : List ℕ) (r : ℕ) (o : Outcome) : Type 0 where
+  pub done : r ≡ 0
+  pub back : take (octetsOf N) (o .octets) ≡ octets
+  pub no-cost : o .cost ≡ 0
+  pub sure : o .confirmed ≡ true
+
+-- the exact cost of the returned train exceeds the least exact cost of any train of N bits by at most 32 for each of the n bits heard;
+-- it is marked confirmed exactly when, against every other such train, twice the rounded-cost difference is greater than the number of
+-- heard bits in which the two differ; and a confirmed train is the only one with the least exact cost
+pub record Trusted (mode counter N a : ℕ) (i q : List ℤ) (o : Outcome) : Type 0 where
+  pub near : (v : List ℕ) → Train N v → exactCost mode N a i q (trainOf counter N (o .octets)) ≤ exactCost mode N a i q v + 32 * sentBits mode N
+  pub only-then : o .confirmed ≡ true → Confirmed N (roundedCost mode N a (softened mode N i q)) (differing mode N a) (trainOf counter N (o .octets))
+  pub always-then : Confirmed N (roundedCost mode N a (softened mode N i q)) (differing mode N a) (trainOf counter N (o .octets)) → o .confirmed ≡ true
+  pub alone : o .confirmed ≡ true → (v : List ℕ) → Train N v → v ≢ trainOf counter N (o .octets)
+      → exactCost mode N a i q (trainOf counter N (o .octets)) < exactCost mode N a i q v

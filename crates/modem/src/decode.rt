@@ -1,0 +1,148 @@
+// The far end: of all trains the one of least rounded cost, with its mark, by soft bytes. readings.rt makes these of readings.
+use crate::coded_room;
+use modes::Train;
+ghost use mathlib.Core.Path.{_≡_};
+ghost use mathlib.Core.Bool.{true, false, _||_};
+ghost use Prim.Native.Nat.{_+_, _*_, _%_, _≤_};
+ghost use lib.Dec.{ltb};
+ghost use lib.ListN.{length};
+ghost use Rattle.laws.specs.Ladder.{ladder};
+ghost use Rattle.modes.specs.Modes.{number};
+ghost use Rattle.modes.specs.Sizes.{sentBits, octetsOf};
+ghost use Rattle.modes.specs.Description.{Legal};
+ghost use Rattle.trellis.specs.Heard as trellis;
+ghost use Rattle.search.specs.Bytes.{costOf, heardOf};
+ghost use Rattle.soft.specs.Carriers.{allSoft};
+ghost use Rattle.modem.specs.Costs.{roundedCost, differing};
+ghost use Rattle.modem.specs.Lent.{lent};
+ghost use Rattle.modem.specs.Decode.{outcome, Chosen, Tells, DecodeSoft};
+
+// What a decode answers: a refusal number, and where that is 0 the symbols, the sent bits, the rounded cost and the mark.
+pub struct Answer {
+    pub refusal: u32,
+    pub symbols: u32,
+    pub n: u32,
+    pub cost: u32,
+    pub confirmed: bool,
+}
+
+// What is known of a train that was found, beside its octets.
+pub(crate) struct Found {
+    cost: u32,
+    confirmed: bool,
+}
+
+// Room for the longest train.
+fn train_room() -> [u8; 3456]
+    ensures { λ r. ⌜ length r ≡ 3456 ⌝ }
+{
+    [0; 3456]
+}
+
+// Of all trains of n bits the one of least cost by the coded bits heard, as octets.
+fn pick(counter: u32, n: usize, heard: &[u8], octets: &mut [u8], words: &mut [u64]) -> Found
+    requires { ⌜ (counter ≤ 15) × (n ≤ 3456) × (n % 8 ≡ 0) ⌝ }
+    requires { ⌜ (2 * (n + 6) ≤ length (now heard)) × (octetsOf n ≤ length (now octets)) × (n + 6 ≤ length (now words)) ⌝ }
+    ensures { λ r. ⌜ Chosen counter n (trellis.trainCost (costOf (now (heard .entry))) n) (trellis.differing (heardOf (now (heard .entry))) n) (now (octets .entry)) (now (words .entry)) (r .cost) (r .confirmed) (now (octets .exit)) (now (words .exit)) ⌝ }
+{
+    let mut scrambled = train_room();
+    let cost = search::search(n, heard, &mut scrambled, words);
+    let confirmed = search::mark(n, heard, &scrambled);
+    coder::descramble(counter, n, &scrambled, octets);
+    Found { cost, confirmed }
+}
+
+// The same by soft bytes, when all has been tested: they go back to their coded bits, and what was not sent is not heard.
+pub(crate) fn find(train: Train, soft: &[i8], octets: &mut [u8], words: &mut [u64]) -> Found
+    requires { ⌜ Legal (number (train .mode)) (train .counter) (train .n) (train .a) ⌝ }
+    requires { ⌜ (length (now soft) ≡ sentBits (number (train .mode)) (train .n)) × (allSoft (now soft) ≡ true) ⌝ }
+    requires { ⌜ (octetsOf (train .n) ≤ length (now octets)) × (train .n + 6 ≤ length (now words)) ⌝ }
+    ensures { λ r. ⌜ Chosen (train .counter) (train .n) (roundedCost (number (train .mode)) (train .n) (train .a) (now (soft .entry))) (differing (number (train .mode)) (train .n) (train .a)) (now (octets .entry)) (now (words .entry)) (r .cost) (r .confirmed) (now (octets .exit)) (now (words .exit)) ⌝ }
+{
+    let mode = train.mode;
+    let counter = train.counter;
+    let n = train.n;
+    let a = train.a;
+    let symbols = modes::symbols_of(mode, n);
+    let mut heard = coded_room();
+    places::spread_pdu(mode, symbols, a, 0, soft, &mut heard);
+    pick(counter, n, &heard, octets, words)
+}
+
+// Whether there is too little room for the octets of n bits, or for the working words.
+pub(crate) fn room_short(n: usize, octets: usize, words: usize) -> bool
+    requires { ⌜ n ≤ 3456 ⌝ }
+    ensures { λ r. ⌜ r ≡ (ltb octets (octetsOf n) || ltb words (n + 6)) ⌝ }
+{
+    if octets < n / 8 {
+        return true;
+    }
+    words < n + 6
+}
+
+// Refusals 7, 8 and 9: an input slice of the wrong length, an output or working slice too short, a value out of range.
+pub(crate) fn lent_refusal(wrong: bool, short: bool, outside: bool) -> u32
+    ensures { λ r. ⌜ r ≡ ladder (lent wrong short outside) ⌝ }
+{
+    if wrong {
+        return 7;
+    }
+    if short {
+        return 8;
+    }
+    if outside { 9 } else { 0 }
+}
+
+pub(crate) fn refused(refusal: u32) -> Answer
+    ensures { λ r. ⌜ Tells refusal 0 0 0 false (r .refusal) (r .symbols) (r .n) (r .cost) (r .confirmed) ⌝ }
+{
+    Answer {
+        refusal,
+        symbols: 0,
+        n: 0,
+        cost: 0,
+        confirmed: false,
+    }
+}
+
+pub(crate) fn done(symbols: usize, sent: usize, found: Found) -> Answer
+    requires { ⌜ (symbols ≤ 144) × (sent ≤ 6912) ⌝ }
+    ensures { λ r. ⌜ Tells 0 symbols sent (found .cost) (found .confirmed) (r .refusal) (r .symbols) (r .n) (r .cost) (r .confirmed) ⌝ }
+{
+    Answer {
+        refusal: 0,
+        symbols: symbols as u32,
+        n: sent as u32,
+        cost: found.cost,
+        confirmed: found.confirmed,
+    }
+}
+
+// The train of least rounded cost, from n soft bytes: n / 8 octets, with n + 6 working words that are zero afterwards.
+pub fn decode_soft(
+    mode: u32,
+    counter: u32,
+    n: u32,
+    a: u32,
+    soft: &[i8],
+    octets: &mut [u8],
+    words: &mut [u64],
+) -> Answer
+    ensures { λ r. ⌜ DecodeSoft mode counter n a (now (soft .entry)) (now (octets .entry)) (now (words .entry)) (r .refusal) (outcome (r .symbols) (r .n) (r .cost) (r .confirmed) (now (octets .exit)) (now (words .exit))) ⌝ }
+{
+    let refusal = modes::refusal(mode, counter, n, a);
+    if refusal != 0 {
+        return refused(refusal);
+    }
+    let train = modes::train_of(mode, counter, n, a);
+    let sent = modes::sent_bits(train.mode, train.n);
+    let short = room_short(train.n, octets.len(), words.len());
+    let in_range = soft::soft_ok(soft);
+    let late = lent_refusal(soft.len() != sent, short, !in_range);
+    if late != 0 {
+        return refused(late);
+    }
+    let symbols = modes::symbols_of(train.mode, train.n);
+    let found = find(train, soft, octets, words);
+    done(symbols, sent, found)
+}

@@ -1,0 +1,12 @@
+pub mod HeldLaws
+pub mod SignLaws
+pub mod ClosedTest
+pub mod IdealTest
+pub mod Runs
+pub mod ClosedLaws
+pub mod StoredLaws
+pub mod CarrierLaws
+pub mod RangeLaws
+pub mod CostLaws
+pub mod ValueLaws
+pub mod IdealLaws

@@ -1,0 +1,4 @@
+pub mod Soft
+pub mod Carriers
+pub mod Closed
+pub mod Stored

@@ -1,0 +1,97 @@
+#!/usr/bin/env bash
+# Builds and runs everything under host/: the proved calls against recorded ones, an independent implementation and an
+# ordinary one; what each costs; and then host/search/run.sh.
+#
+#     host/run.sh [COUNT]
+#
+# At least COUNT random calls are made, 100,000 where it is not given. It needs cargo, rustc, python3, and what
+# host/search/run.sh needs. Variables name the tools, as host/machine.sh says, and
+#
+#     JUZAMBORE_LIB          a folder with ready libjuzambore.a and libgauge.a; without it `rt staticlib` makes both
+set -eu
+cd "$(dirname "$0")/.."
+work=$(mktemp -d)
+trap 'rm -r "$work"' EXIT
+. host/machine.sh
+
+say() { printf '\n== %s\n' "$*"; }
+
+if [ -z "${JUZAMBORE_LIB:-}" ]; then
+    for name in juzambore gauge; do
+        say "rt staticlib $name"
+        rt staticlib $name > "$work/log" 2>&1 || { tail -n 20 "$work/log"; exit 1; }
+    done
+    JUZAMBORE_LIB=target/staticlib
+fi
+JUZAMBORE_LIB=$(cd "$JUZAMBORE_LIB" && pwd)
+export JUZAMBORE_LIB
+
+# Cargo is told the target by a word of its own, and not by RUSTFLAGS.
+flags=$(echo "${RUSTFLAGS:-}" | sed 's/--target[ =][^ ]*//')
+target=
+if [ -n "$emulator" ]; then
+    target=x86_64-unknown-linux-gnu
+    $CC -shared -fPIC -o "$work/no_stack_end.so" host/no_stack_end.c
+    emulator="$emulator -E LD_PRELOAD=$work/no_stack_end.so"
+    export CARGO_TARGET_X86_64_UNKNOWN_LINUX_GNU_LINKER=$CC CARGO_TARGET_X86_64_UNKNOWN_LINUX_GNU_RUNNER=$emulator
+    export RUST_BACKTRACE=0 # which would read /proc/self/maps
+fi
+cargo_does() {
+    say "cargo $*"
+    RUSTFLAGS=$flags CARGO_TARGET_DIR=$work/built cargo "$1" --quiet --offline --locked ${target:+--target $target} \
+        --manifest-path host/Cargo.toml "${@:2}"
+}
+
+cargo_does test --workspace --lib --bins
+cargo_does run --release --example roundtrip
+cargo_does build --release --package trial
+trial=$work/built/$target/release/trial
+
+say "recorded calls; the trains are of host/reference.py"
+python3 host/reference.py trains 140 > "$work/trains"
+$emulator "$trial" vectors host/vectors/encode.txt host/vectors/decode.txt "$work/trains"
+
+say "random calls"
+$emulator "$trial" calls "${1:-100000}"
+
+say "speed"
+$emulator "$trial" agree
+
+# What a call takes, start-up left out.
+one_call() {
+    echo $(($(counted "$trial" run "$@" 1) - $(counted "$trial" run "$@" 0)))
+}
+
+for mode in 1 2 3 4 5 6 7; do
+    echo "encode $mode $(one_call proved encode $mode) $(one_call ordinary encode $mode) 0"
+done > "$work/counts"
+for mode in 1 2 3 4 5 6 7; do
+    echo "decode $mode $(one_call proved decode $mode) $(one_call ordinary decode $mode) $(one_call shape decode $mode)"
+done >> "$work/counts"
+passes=$(one_call proved passes 6)
+if [ -z "$emulator" ]; then "$trial" times; else sed 's/ .*/ 0 0 0 0/' "$work/counts"; fi > "$work/times"
+
+paste -d ' ' "$work/counts" "$work/times" | awk -v passes="$passes" '
+    BEGIN {
+        row = "%-6s %4s %9s %9s %10s %10s %10s %10s %9s %10s %10s %10s\n"
+        printf "\n%-11s %30s %21s %31s %21s\n", "N = 3456", "instructions of a call", "ours over theirs",
+            "nanoseconds of a call", "ours over theirs"
+        printf row, "call", "mode", "proved", "ordinary", "same shape", "ordinary", "same shape", "proved", "ordinary",
+            "same shape", "ordinary", "same shape"
+    }
+    function some(x) { return x > 0 ? x : "-" }
+    function over(ours, theirs) { return theirs > 0 ? sprintf("%.2f", ours / theirs) : "-" }
+    {
+        printf row, $1, $2, some($3), some($4), some($5), over($3, $4), over($3, $5), some($8), some($9), some($10),
+            over($8, $9), over($8, $10)
+        if ($1 == "decode" && $2 == 6) whole = $3
+    }
+    END {
+        share = (whole - passes) / whole
+        printf "of a decode in mode 6, %.3f lies outside search and mark, bar 0.25: %s\n", share,
+            share <= 0.25 ? "held" : "NOT HELD"
+    }'
+if [ -n "$emulator" ]; then echo "times are not measured: the code ran under an emulator"; fi
+
+say "host/search/run.sh"
+LIBRARY=$JUZAMBORE_LIB/libgauge.a host/search/run.sh

@@ -1,0 +1,205 @@
+//! Random calls: trains short and long in all modes, and what can be wrong with each parameter, length and value.
+use crate::calls::{Call, Case};
+use crate::independent::{encode, modes::Size};
+use crate::lent::Lent;
+use crate::random::Random;
+
+const MOST: u32 = u32::MAX;
+
+/// A good description of this mode: mode, counter, N and a. Most trains are short, one in 64 is of the greatest length.
+pub fn description(random: &mut Random, mode: u32) -> [u32; 4] {
+    let (least, most) = match random.below(64) {
+        0 => (3456, 3456),
+        1 => (72, 3456),
+        2..=7 => (72, 1000),
+        _ => (72, 432),
+    };
+    let lengths: Vec<u32> = (least..=most).filter(|&n| Size::of(mode, None, n, None).is_ok()).collect();
+    let n = random.pick(&lengths);
+    let within = random.below(n as usize - 71) as u32;
+    [mode, random.below(16) as u32, n, random.pick(&[0, n - 72, within, within])]
+}
+
+/// Now and then some of a call's numbers are bad, or any 32 bits.
+fn damage(random: &mut Random, case: &mut Case) {
+    if !random.one_in(3) {
+        return;
+    }
+    let any = random.word() as u32;
+    let n = case.n;
+    if random.one_in(4) {
+        case.mode = random.pick(&[0, 8, 9, 256 + case.mode, any, MOST]);
+    }
+    if random.one_in(4) {
+        case.counter = random.pick(&[16, 17, 256, any, MOST]);
+    }
+    if random.one_in(2) {
+        let more = 1 + random.below(7) as u32;
+        let near = [n + more, n + more, n + 8, n + 8, n - 8, n + 4];
+        let far = [0, 64, 71, 73, 108, 3457, 3464, any, MOST, MOST - 7];
+        case.n = if random.one_in(2) { random.pick(&near) } else { random.pick(&far) };
+    }
+    if random.one_in(4) {
+        case.a = random.pick(&[n - 71, n, 3456, any, MOST, MOST - 71]);
+    }
+}
+
+/// The length of a slice that must be exactly so long, now and then wrong.
+fn exact(random: &mut Random, needed: usize) -> usize {
+    if !random.one_in(20) {
+        return needed;
+    }
+    let any = random.below(2 * needed);
+    random.pick(&[0, needed - 1, needed + 1, any])
+}
+
+/// The length of a slice that must be at least so long: mostly enough, often more.
+fn enough(random: &mut Random, needed: usize) -> usize {
+    if !random.one_in(20) {
+        return needed + random.pick(&[0, 0, 1, 5, 40]);
+    }
+    let any = random.below(needed);
+    random.pick(&[0, needed - 1, any])
+}
+
+fn sent_bits(random: &mut Random, count: usize) -> Vec<u8> {
+    let mut sent: Vec<u8> = (0..count).map(|_| random.below(2) as u8).collect();
+    if random.one_in(8) {
+        let (at, any) = (random.below(count), random.word() as u8);
+        sent[at] = random.pick(&[2, 3, 128, 254, 255, any]);
+    }
+    sent
+}
+
+/// The sent bits of a random train of the case's description.
+fn train(random: &mut Random, case: &Case) -> Vec<u8> {
+    let octets = random.octets(case.n as usize / 8);
+    let mut sent = vec![0; case.size().sent];
+    assert_eq!(encode(case.mode, case.counter, case.n, case.a, &octets, &mut sent), 0);
+    sent
+}
+
+/// Soft bytes of a train with noise, or of none: random, of one size, with many ties.
+fn soft_bytes(random: &mut Random, case: &Case) -> Vec<i8> {
+    let sent = train(random, case);
+    let (level, noise) = (random.pick(&[1, 2, 8, 24, 80]), random.pick(&[0, 1, 4, 12, 30]));
+    let (size, end) = (random.pick(&[1, 1, 2, 16, 80]), random.pick(&[1, 8, 80]));
+    let kind = random.below(10);
+    let mut soft: Vec<i8> = Vec::new();
+    for bit in sent {
+        let clear = if bit == 1 { level } else { -level };
+        soft.push(match kind {
+            0 => 0,
+            1 | 2 => random.around(size) as i8,
+            3 => random.pick(&[-end, end]),
+            4 => end,
+            5 => -end,
+            _ => (clear + random.noise(noise)).clamp(-80, 80) as i8,
+        });
+    }
+    spoil(random, &mut soft);
+    soft
+}
+
+/// Now and then soft bytes out of range: one, several or all.
+fn spoil(random: &mut Random, soft: &mut [i8]) {
+    if !random.one_in(12) {
+        return;
+    }
+    let bad = random.pick(&[81, -81, 127, -127, -128, -128]);
+    match random.below(6) {
+        0 => soft.fill(bad),
+        1 => soft.iter_mut().step_by(7).for_each(|byte| *byte = bad),
+        2 => soft[0] = bad,
+        3 => soft[soft.len() - 1] = bad,
+        _ => {
+            let at = random.below(soft.len());
+            soft[at] = bad;
+        }
+    }
+}
+
+/// Readings of no train: anything, around the levels, at the ends of what is held, zero.
+fn readings(random: &mut Random, count: usize) -> Vec<i16> {
+    let ends = [-32768, 32767, 2047, 2048, 2049, -2047, -2048, -2049, 0];
+    let kind = random.below(5);
+    let mut one = || match kind {
+        0 => random.word() as i16,
+        1 => random.around(3000) as i16,
+        2 => random.pick(&ends),
+        3 => (256 * random.around(8) + random.around(2)) as i16,
+        _ => 32 * random.around(2) as i16,
+    };
+    (0..count).map(|_| one()).collect()
+}
+
+/// Readings with noise of this strength.
+pub fn with_noise(random: &mut Random, ideal: &[i16], strength: i32) -> Vec<i16> {
+    let noisy = |&reading: &i16| (i32::from(reading) + random.noise(strength)).clamp(-32768, 32767) as i16;
+    ideal.iter().map(noisy).collect()
+}
+
+/// A random call.
+pub fn random_case(random: &mut Random, call: Call) -> Case {
+    let mode = 1 + random.below(7) as u32;
+    let mut case = Case::new(call, description(random, mode));
+    match call {
+        Call::Encode => encode_case(random, &mut case),
+        Call::Ideal => ideal_case(random, &mut case),
+        Call::Mapped => case.group = random.pick(&[0, 1, 2, 3, 4, 15, 16, 17, 63, 64, 65, MOST]),
+        Call::Soften => soften_case(random, &mut case),
+        Call::DecodeSoft => decode_soft_case(random, &mut case),
+        Call::DecodeReadings => decode_readings_case(random, &mut case),
+    }
+    damage(random, &mut case);
+    case
+}
+
+fn encode_case(random: &mut Random, case: &mut Case) {
+    let size = case.size();
+    let (octets, room) = (exact(random, size.n / 8), enough(random, size.sent));
+    case.octets = Lent::random(random, octets);
+    case.sent = Lent::random(random, room);
+}
+
+fn ideal_case(random: &mut Random, case: &mut Case) {
+    let size = case.size();
+    let (bits, count) = (sent_bits(random, size.sent), exact(random, size.sent));
+    let (on_i, on_q) = (enough(random, size.carriers), enough(random, size.carriers));
+    case.sent = Lent::holding(random, &bits, count);
+    case.i = Lent::random(random, on_i);
+    case.q = Lent::random(random, on_q);
+}
+
+fn soften_case(random: &mut Random, case: &mut Case) {
+    readings_in(random, case);
+    let room = enough(random, case.size().sent);
+    case.soft = Lent::random(random, room);
+}
+
+fn decode_soft_case(random: &mut Random, case: &mut Case) {
+    let soft = soft_bytes(random, case);
+    let count = exact(random, soft.len());
+    case.soft = Lent::holding(random, &soft, count);
+    train_out(random, case);
+}
+
+fn decode_readings_case(random: &mut Random, case: &mut Case) {
+    readings_in(random, case);
+    train_out(random, case);
+}
+
+fn readings_in(random: &mut Random, case: &mut Case) {
+    let carriers = case.size().carriers;
+    let (i, q) = (readings(random, carriers), readings(random, carriers));
+    let (on_i, on_q) = (exact(random, carriers), exact(random, carriers));
+    case.i = Lent::holding(random, &i, on_i);
+    case.q = Lent::holding(random, &q, on_q);
+}
+
+fn train_out(random: &mut Random, case: &mut Case) {
+    let n = case.size().n;
+    let (octets, words) = (enough(random, n / 8), enough(random, n + 6));
+    case.octets = Lent::random(random, octets);
+    case.words = Lent::random(random, words);
+}

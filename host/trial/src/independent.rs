@@ -1,0 +1,114 @@
+//! The six calls once more, slow and obvious, written from document 01 alone: no code, table or definition comes from
+//! the proved crates. Each takes and answers what the library's call does.
+pub mod modes;
+mod points;
+mod search;
+mod sending;
+#[cfg(test)]
+mod tests;
+
+use juzambore::{Answer, Mapping};
+use modes::{mode_of, Size};
+
+/// The refusal `no` unless it fits.
+fn unless(no: u32, fits: bool) -> Result<(), u32> {
+    if fits {
+        Ok(())
+    } else {
+        Err(no)
+    }
+}
+
+fn number(result: Result<(), u32>) -> u32 {
+    result.err().unwrap_or(0)
+}
+
+pub fn encode(mode: u32, counter: u32, n: u32, a: u32, octets: &[u8], sent: &mut [u8]) -> u32 {
+    number((|| {
+        let size = Size::of(mode, Some(counter), n, Some(a))?;
+        unless(7, octets.len() == size.n / 8)?;
+        unless(8, sent.len() >= size.sent)?;
+        sent[..size.sent].copy_from_slice(&sending::sent_bits(size.mode, counter, a as usize, octets));
+        Ok(())
+    })())
+}
+
+pub fn ideal(mode: u32, n: u32, sent: &[u8], i: &mut [i16], q: &mut [i16]) -> u32 {
+    number((|| {
+        let size = Size::of(mode, None, n, None)?;
+        unless(7, sent.len() == size.sent)?;
+        unless(8, i.len() >= size.carriers && q.len() >= size.carriers)?;
+        unless(9, sent.iter().all(|&bit| bit <= 1))?;
+        for (k, group) in sent.chunks(size.mode.carrier).enumerate() {
+            let levels = points::levels(group);
+            (i[k], q[k]) = (256 * levels[0], 256 * levels[1]);
+        }
+        Ok(())
+    })())
+}
+
+pub fn mapped(mode: u32, group: u32) -> Mapping {
+    let parts = (|| {
+        let mode = mode_of(mode)?;
+        unless(9, group < 1 << mode.carrier)?;
+        Ok(points::point(mode.carrier, group))
+    })();
+    match parts {
+        Ok([i, q]) => Mapping { refusal: 0, i, q },
+        Err(refusal) => Mapping { refusal, i: 0.0, q: 0.0 },
+    }
+}
+
+pub fn soften(mode: u32, n: u32, i: &[i16], q: &[i16], soft: &mut [i8]) -> u32 {
+    number((|| {
+        let size = Size::of(mode, None, n, None)?;
+        unless(7, i.len() == size.carriers && q.len() == size.carriers)?;
+        unless(8, soft.len() >= size.sent)?;
+        soft[..size.sent].copy_from_slice(&points::soft_bytes(size.mode, i, q));
+        Ok(())
+    })())
+}
+
+pub fn decode_soft(
+    mode: u32, counter: u32, n: u32, a: u32, soft: &[i8], octets: &mut [u8], words: &mut [u64],
+) -> Answer {
+    answer((|| {
+        let size = Size::of(mode, Some(counter), n, Some(a))?;
+        unless(7, soft.len() == size.sent)?;
+        unless(8, octets.len() >= size.n / 8 && words.len() >= size.n + 6)?;
+        unless(9, soft.iter().all(|&byte| (-80..=80).contains(&byte)))?;
+        Ok(decoded(&size, counter, a as usize, soft, octets, words))
+    })())
+}
+
+#[allow(clippy::too_many_arguments)]
+pub fn decode_readings(
+    mode: u32, counter: u32, n: u32, a: u32, i: &[i16], q: &[i16], octets: &mut [u8], words: &mut [u64],
+) -> Answer {
+    answer((|| {
+        let size = Size::of(mode, Some(counter), n, Some(a))?;
+        unless(7, i.len() == size.carriers && q.len() == size.carriers)?;
+        unless(8, octets.len() >= size.n / 8 && words.len() >= size.n + 6)?;
+        let soft = points::soft_bytes(size.mode, i, q);
+        Ok(decoded(&size, counter, a as usize, &soft, octets, words))
+    })())
+}
+
+fn answer(result: Result<Answer, u32>) -> Answer {
+    result.unwrap_or_else(|refusal| Answer { refusal, symbols: 0, n: 0, cost: 0, confirmed: false })
+}
+
+/// Each soft byte goes to the coded bit that it is of; then search, mark and descrambling.
+fn decoded(size: &Size, counter: u32, a: usize, soft: &[i8], octets: &mut [u8], words: &mut [u64]) -> Answer {
+    let numbers: Vec<[usize; 2]> = (0..size.n + 6).map(|t| [2 * t, 2 * t + 1]).collect();
+    let mut heard = vec![[None; 2]; size.n + 6];
+    for (number, &byte) in sending::in_sent_order(size.mode, a, &numbers).into_iter().zip(soft) {
+        heard[number / 2][number % 2] = Some(byte);
+    }
+    let (train, cost) = search::least(&heard);
+    let confirmed = search::is_confirmed(&heard, &train, cost);
+    let bits = sending::scrambled(&train, counter);
+    octets[..size.n / 8].copy_from_slice(&sending::octets_of(&bits));
+    words[..size.n + 6].fill(0);
+    Answer { refusal: 0, symbols: size.symbols as u32, n: size.sent as u32, cost: cost as u32, confirmed }
+}

@@ -1,0 +1,71 @@
+//! Levels, points and soft bytes.
+use super::modes::Mode;
+
+/// Table 5: the level of one axis for its bits, the earliest the highest. With no bits it is 0.
+fn level(bits: usize, value: usize) -> i16 {
+    match bits {
+        0 => 0,
+        1 => [-1, 1][value],
+        2 => [-3, -1, 3, 1][value],
+        _ => [-7, -5, -1, -3, 7, 5, 1, 3][value],
+    }
+}
+
+/// How many of a carrier's bits choose I, and how many Q.
+fn split(carrier: usize) -> [usize; 2] {
+    match carrier {
+        1 => [1, 0],
+        _ => [carrier / 2, carrier / 2],
+    }
+}
+
+fn value_of(bits: &[u8]) -> usize {
+    bits.iter().fold(0, |value, &bit| 2 * value + usize::from(bit))
+}
+
+/// I and Q of one carrier's bits.
+pub fn levels(group: &[u8]) -> [i16; 2] {
+    let [of_i, of_q] = split(group.len());
+    [level(of_i, value_of(&group[..of_i])), level(of_q, value_of(&group[of_i..]))]
+}
+
+/// The transmitter's point: each level times K by one f32 multiplication.
+pub fn point(carrier: usize, group: u32) -> [f32; 2] {
+    let k = match carrier {
+        1 => 1.0,
+        2 => f32::from_bits(0x3F3504F3),
+        4 => f32::from_bits(0x3EA1E89B),
+        _ => f32::from_bits(0x3E1E01B3),
+    };
+    let bits: Vec<u8> = (0..carrier).rev().map(|j| (group >> j & 1) as u8).collect();
+    levels(&bits).map(|level| f32::from(level) * k)
+}
+
+/// S of one bit of an axis, by the squared distances to all levels.
+pub fn leaning(reading: i16, bits: usize, bit: usize) -> i64 {
+    let held = i64::from(reading.clamp(-2048, 2048));
+    let least = |wanted: usize| {
+        let values = (0..1 << bits).filter(|value| value >> (bits - 1 - bit) & 1 == wanted);
+        values.map(|value| (held - 256 * i64::from(level(bits, value))).pow(2)).min().expect("a level for each bit")
+    };
+    let s = least(0) - least(1);
+    assert_eq!(s % 1024, 0, "S is a whole number");
+    s / 1024
+}
+
+/// S / 64 rounded to the nearest, halves away from zero.
+pub fn soft_byte(s: i64) -> i8 {
+    let size = (s.abs() + 32) / 64;
+    (size * s.signum()) as i8
+}
+
+/// The soft bytes of all carriers; BPSK reads no Q.
+pub fn soft_bytes(mode: &Mode, i: &[i16], q: &[i16]) -> Vec<i8> {
+    let mut out = Vec::new();
+    for readings in i.iter().zip(q).map(|(&i, &q)| [i, q]) {
+        for (reading, bits) in readings.into_iter().zip(split(mode.carrier)) {
+            out.extend((0..bits).map(|bit| soft_byte(leaning(reading, bits, bit))));
+        }
+    }
+    out
+}

@@ -1,0 +1,78 @@
+//! Recorded calls, line by line, by every implementation: the library, the independent and the ordinary one.
+//!
+//! A line of `encode` is: kind, mode, counter, N, a, octets in hex, sent bits. A line of `decode_soft` is: kind, mode,
+//! counter, N, a, soft bytes, `=`, refusal, symbols, n, cost, mark (C, D or -), octets in hex.
+use crate::calls::{Call, Case, Told, INDEPENDENT, LIBRARY, ORDINARY};
+use crate::lent::Lent;
+use crate::random::Random;
+use juzambore::Answer;
+use std::fs;
+
+/// A recorded call, what it answers and what it leaves.
+struct Recorded {
+    case: Case,
+    told: Told,
+    sent: Vec<u8>,
+    octets: Vec<u8>,
+}
+
+fn number(word: &str) -> u32 {
+    word.parse().expect("a number")
+}
+
+fn octets_of(hex: &str) -> Vec<u8> {
+    (0..hex.len()).step_by(2).map(|k| u8::from_str_radix(&hex[k..k + 2], 16).expect("an octet")).collect()
+}
+
+fn described(words: &[&str]) -> [u32; 4] {
+    [1, 2, 3, 4].map(|k| number(words[k]))
+}
+
+fn encode_line(line: &str) -> Recorded {
+    let random = &mut Random::new(1);
+    let words: Vec<&str> = line.split(' ').collect();
+    let octets = octets_of(words[5]);
+    let sent: Vec<u8> = words[6].bytes().map(|bit| bit - b'0').collect();
+    let mut case = Case::new(Call::Encode, described(&words));
+    case.octets = Lent::holding(random, &octets, octets.len());
+    case.sent = Lent::random(random, sent.len());
+    Recorded { case, told: Told::Number(0), sent, octets }
+}
+
+fn decode_line(call: &str, answer: &str) -> Recorded {
+    let random = &mut Random::new(1);
+    let words: Vec<&str> = call.split(' ').collect();
+    let soft: Vec<i8> = words[5..].iter().map(|word| word.parse().expect("a soft byte")).collect();
+    let mut case = Case::new(Call::DecodeSoft, described(&words));
+    case.soft = Lent::holding(random, &soft, soft.len());
+    case.octets = Lent::random(random, case.n as usize / 8);
+    case.words = Lent::random(random, case.n as usize + 6);
+    let said: Vec<&str> = answer.split(' ').collect();
+    let [refusal, symbols, n, cost] = [0, 1, 2, 3].map(|k| number(said[k]));
+    let told = Told::Decoded(Answer { refusal, symbols, n, cost, confirmed: said[4] == "C" });
+    Recorded { case, told, sent: Vec::new(), octets: octets_of(said[5]) }
+}
+
+/// Runs the lines of a file; whether all give what is recorded.
+pub fn agree(path: &str) -> bool {
+    let text = fs::read_to_string(path).unwrap_or_else(|error| panic!("{path}: {error}"));
+    let mut wrong = 0;
+    for (number, line) in text.lines().enumerate() {
+        let recorded = match line.split_once(" = ") {
+            Some((call, answer)) => decode_line(call, answer),
+            None => encode_line(line),
+        };
+        for (name, by) in [("library", &LIBRARY), ("independent", &INDEPENDENT), ("ordinary", &ORDINARY)] {
+            let mut case = recorded.case.clone();
+            let told = case.run(by);
+            let left = case.sent.part() == recorded.sent && case.octets.part() == recorded.octets;
+            if told != recorded.told || !left || case.words.part().iter().any(|&word| word != 0) {
+                println!("{path} line {}: {name} differs: {told:?}, recorded {:?}", number + 1, recorded.told);
+                wrong += 1;
+            }
+        }
+    }
+    let lines = text.lines().count();
+    println!("{path}: {lines} lines by the library, the independent and the ordinary one: {wrong} differences");
+    wrong == 0 && lines > 0
+}
