@@ -6,7 +6,8 @@ host/reference.py, and none comes from the program. crates/numbers/src/main.rt s
 """
 import os
 
-from reference import MODES, drawn, encode, ideal, lengths_of, mapped, recorded, sent_bits, text
+from reference import (MODES, SOFT, decode_readings, decode_soft, drawn, encode, ideal, lengths_of, mapped, octets_of,
+                       recorded, scrambled, sent_bits, soften, softened, text)
 
 HERE = os.path.dirname(os.path.abspath(__file__))
 VECTORS = os.path.join(HERE, "vectors", "encode.txt")
@@ -14,11 +15,17 @@ NUMBERS = os.path.join(HERE, "..", "crates", "numbers")
 
 MOST = 2 ** 32 - 1
 MARK = 7  # what the program fills its buffers with before it lends them
+MARK_SOFT = 100  # the same for soft bytes
 
 
-def lent(values, room):
-    """All lent elements after a call: MARK where nothing was written, which is everywhere where it was refused."""
-    return values + [MARK] * (room - len(values))
+def lent(values, room, mark=MARK):
+    """All lent elements after a call: the mark where nothing was written, which is everywhere where it was refused."""
+    return values + [mark] * (room - len(values))
+
+
+def signed(values, digits):
+    """Signed numbers in two's complement, so many hexadecimal digits for each."""
+    return "".join(f"{v % 16 ** digits:0{digits}x}" for v in values) or "-"
 
 
 def encode_call(mode, counter, n, a, octets, room):
@@ -35,6 +42,29 @@ def ideal_call(mode, n, sent, room_i, room_q):
 def mapped_call(mode, group):
     no, (i, q) = mapped(mode, group)
     return f"mapped {mode} {group}", f"{no} {i:08x} {q:08x}"
+
+
+def soften_call(mode, n, i, q, room):
+    no, soft = soften(mode, n, i, q, room)
+    return f"soften {mode} {n} {signed(i, 4)} {signed(q, 4)} {room}", " ".join(map(str, [no, *lent(soft, room, MARK_SOFT)]))
+
+
+def answered(n, room_octets, room_words, no, symbols, sent, cost, mark, octets):
+    """The line of a decode: at the end how many words are zero, and where those end that are as they were."""
+    left = bytes(lent([*octets], room_octets))
+    return f"{no} {symbols} {sent} {cost} {mark} {left.hex()} {0 if no else n + 6} {room_words}"
+
+
+def decode_soft_call(mode, counter, n, a, soft, room_octets, room_words):
+    line = f"decode_soft {mode} {counter} {n} {a} {signed(soft, 2)} {room_octets} {room_words}"
+    answer = decode_soft(mode, counter, n, a, soft, room_octets, room_words)
+    return line, answered(n, room_octets, room_words, *answer)
+
+
+def decode_readings_call(mode, counter, n, a, i, q, room_octets, room_words):
+    line = f"decode_readings {mode} {counter} {n} {a} {signed(i, 4)} {signed(q, 4)} {room_octets} {room_words}"
+    answer = decode_readings(mode, counter, n, a, i, q, room_octets, room_words)
+    return line, answered(n, room_octets, room_words, *answer)
 
 
 def recorded_calls():
@@ -117,8 +147,109 @@ def mapped_calls():
             yield mapped_call(mode, group)
 
 
+def noise(label, count, most):
+    """`count` whole numbers from -most to most, the same on every run."""
+    return [int.from_bytes(drawn(f"{label} {k}", 4), "big") % (2 * most + 1) - most for k in range(count)]
+
+
+def noisy(label, values, most, limit):
+    """Values with noise added, held to -limit to limit."""
+    return [max(-limit, min(limit, v + e)) for v, e in zip(values, noise(label, len(values), most))]
+
+
+def ideal_readings(mode, counter, n, a, octets):
+    carriers = n // MODES[mode].info * 48
+    return ideal(mode, n, sent_bits(mode, counter, a, octets), carriers, carriers)[1:]
+
+
+def soften_calls():
+    """The soft numbers of document 01 on both axes, among readings of every size, the largest and the least; BPSK's Q is not
+    read. Then refusals 1, 3, 4, 5, 7, 8, the first of each kind with all later reasons, and calls that pass."""
+    for mode in MODES:
+        n = lengths_of(mode)[0]
+        carriers, width = n // MODES[mode].info * 48, max(1, MODES[mode].carrier // 2)
+        stated = [r for w, _, r, _ in SOFT if w == width] + [32767, -32768, -2049, 0]
+        i = stated + noise(f"soft i {mode}", carriers - len(stated), 2600)
+        q = stated[::-1] + noise(f"soft q {mode}", carriers - len(stated), 2600)
+        room = n // MODES[mode].info * MODES[mode].sent + mode % 3
+        _, soft = soften(mode, n, i, q, room)
+        for w, j, r, byte in SOFT:
+            assert w != width or soft[MODES[mode].carrier * stated.index(r) + j] == byte
+        yield soften_call(mode, n, i, q, room)
+    one = [256, -32768, 32767] * 16
+    for call in [
+        (0, 64, [1], [], 0), (8, 64, [1], [], 0), (MOST, MOST, [], [], 3),
+        (4, 64, [1], [], 0), (4, 0, one, one, 96), (4, 3464, [1], [], 0), (4, MOST, one, one, 96),
+        (4, 73, [1], [], 0), (2, 108, one, one, 96), (4, 80, [1], [], 0), (3, 72, one, one, 96),
+        (4, 72, [1], [], 0), (4, 72, one[1:], one, 96), (4, 72, one, one[1:], 96), (4, 72, one + [0], one, 96), (4, 72, one, one + [0], 96),
+        (4, 72, one, one, 0), (4, 72, one, one, 95),
+        (4, 72, one, one, 96), (4, 72, one, one, 99),
+    ]:
+        yield soften_call(*call)
+
+
+def decode_calls():
+    """Each mode's shortest train: all soft bytes zero; ideal readings; noisy soft bytes; noisy readings, little and much. Then
+    one of the longest trains. Most are lent more room than they need."""
+    for mode in MODES:
+        n, counter = lengths_of(mode)[0], (3 * mode + 5) % 16
+        a = n - 72
+        sent, octets = n // MODES[mode].info * MODES[mode].sent, drawn(f"decode {mode}", n // 8)
+        assert decode_soft(mode, counter, n, a, [0] * sent, n // 8, n + 6)[3:] == (0, "D", octets_of(scrambled([0] * n, counter)))
+        yield decode_soft_call(mode, counter, n, a, [0] * sent, n // 8, n + 6 + mode)
+        i, q = ideal_readings(mode, counter, n, a, octets)
+        assert decode_readings(mode, counter, n, a, i, q, n // 8, n + 6)[3:] == (0, "C", octets)
+        yield decode_readings_call(mode, counter, n, a, i, q, n // 8 + mode % 4, n + 6)
+        soft = softened(MODES[mode].carrier, i, q)
+        for k, most in enumerate((5, 20)):
+            yield decode_soft_call(mode, counter, n, a, noisy(f"soft {mode} {k}", soft, most, 80), n // 8 + k, n + 6 + 3 * k)
+        for k, most in enumerate((300, 700)):
+            on_i, on_q = (noisy(f"{axis} {mode} {k}", r, most, 32767) for axis, r in (("i", i), ("q", q)))
+            yield decode_readings_call(mode, counter, n, a, on_i, on_q, n // 8, n + 6)
+    octets = drawn("longest", 432)
+    i, q = (noisy(f"longest {k}", r, 330, 32767) for k, r in enumerate(ideal_readings(7, 15, 3456, 1234, octets)))
+    yield decode_readings_call(7, 15, 3456, 1234, i, q, 434, 3470)
+
+
+def refused_decodes():
+    """The two decodes' refusals 1 to 8, and 9 of soft bytes. The first of each kind has all later reasons too; at the end
+    calls that pass, among them the lengths that document 01 names."""
+    bad, good = [81], noise("good", 96, 80)
+    for call in [
+        (0, 16, 64, MOST, bad, 0, 0), (8, 16, 64, MOST, bad, 9, 9), (MOST, MOST, MOST, MOST, [], 2, 0),
+        (4, 16, 64, MOST, bad, 0, 0), (4, MOST, 72, 0, good, 9, 78),
+        (4, 15, 64, MOST, bad, 0, 0), (4, 0, 3464, MOST, bad, 0, 0), (4, 0, MOST, 0, good, 9, 78),
+        (4, 0, 73, MOST, bad, 0, 0), (2, 0, 108, 0, good, 20, 120),
+        (4, 0, 80, MOST, bad, 0, 0), (3, 0, 72, 0, good, 9, 78),
+        (4, 0, 72, MOST, bad, 0, 0), (4, 0, 72, 1, good, 9, 78),
+        (4, 0, 72, 0, bad, 0, 0), (4, 0, 72, 0, good[1:], 9, 78), (4, 0, 72, 0, good + [0], 9, 78),
+        (4, 0, 72, 0, bad + good[1:], 8, 78), (4, 0, 72, 0, good, 9, 77), (4, 0, 72, 0, good, 0, 100), (4, 0, 72, 0, good, 100, 0),
+        (4, 0, 72, 0, bad + good[1:], 9, 78), (4, 0, 72, 0, good[:95] + [-81], 9, 80), (4, 0, 72, 0, good[:40] + [-128] + good[41:], 10, 78),
+        (4, 0, 72, 0, good[:40] + [127] + good[41:], 9, 78),
+        (4, 0, 72, 0, good, 9, 78), (4, 15, 72, 0, [80, -80] * 48, 12, 90),
+    ]:
+        yield decode_soft_call(*call)
+    one = noise("one", 48, 1000)
+    for call in [
+        (0, 16, 64, MOST, [1], [], 0, 0), (8, 16, 64, MOST, [1], [], 0, 0), (MOST, MOST, MOST, MOST, [], [], 2, 2),
+        (4, 16, 64, MOST, [1], [], 0, 0), (4, 15, 64, MOST, [1], [], 0, 0), (4, 0, 3464, 0, one, one, 9, 78),
+        (4, 0, 73, MOST, [1], [], 0, 0), (4, 0, 80, MOST, [1], [], 0, 0), (4, 0, 72, MOST, [1], [], 0, 0), (4, 0, 72, 1, one, one, 9, 78),
+        (4, 0, 72, 0, [1], [], 0, 0), (4, 0, 72, 0, one[1:], one, 9, 78), (4, 0, 72, 0, one, one + [0], 9, 78),
+        (4, 0, 72, 0, one, one, 8, 78), (4, 0, 72, 0, one, one, 9, 77), (4, 0, 72, 0, one, one, 0, 0),
+        (4, 0, 72, 0, one, one, 9, 78),
+    ]:
+        yield decode_readings_call(*call)
+    for mode, n, n_sent in (1, 72, 144), (4, 72, 96), (7, 432, 576):
+        answer = decode_soft(mode, 4, n, 0, noise(f"size {n}", n_sent, 9), n // 8, n + 6)
+        assert answer[0] == 0 and answer[2] == n_sent
+        yield decode_soft_call(mode, 4, n, 0, noise(f"size {n}", n_sent, 9), n // 8, n + 6)
+
+
 def write():
-    calls = [*recorded_calls(), *train_calls(), *refused_calls(), *stated_calls(), *ideal_calls(), *mapped_calls()]
+    calls = [
+        *recorded_calls(), *train_calls(), *refused_calls(), *stated_calls(), *ideal_calls(), *mapped_calls(),
+        *soften_calls(), *decode_calls(), *refused_decodes(),
+    ]
     for name, side in ("stdin", 0), ("stdout", 1):
         with open(os.path.join(NUMBERS, name), "w", encoding="ascii") as file:
             file.writelines(call[side] + "\n" for call in calls)

@@ -1,15 +1,17 @@
 #!/usr/bin/env python3
-"""The sending half in plain Python: slow, obvious, and written from the documents alone.
+"""The whole modem in plain Python: slow, obvious, and written from the documents alone.
 
 It follows clauses 5.2 to 5.5 of ETSI TS 101 475 and, where that leaves something open, the project's own rules
 (document 01). It shares no code, table or definition with the crates, so that an agreement of the two means something.
 
     python3 host/reference.py check FILE     encode the data trains of one mode in FILE and count those that agree
+    python3 host/reference.py decoded FILE   decode the soft bytes of each line of FILE and count those that agree
     python3 host/reference.py trains COUNT   print COUNT trains in FILE's form, over all modes, lengths and places of P1
     python3 host/reference.py numbers        write crates/numbers/stdin and crates/numbers/stdout (host/number_calls.py)
 
 A line of FILE: kind, modes, counter, lengths, a, octets in hex, sent bits. host/vectors/encode.txt is such a file: the
-lines of one mode of the customer's vectors, as they came.
+lines of one mode of the customer's vectors, as they came. For `decoded`: kind, mode, counter, N, a, the soft bytes, `=`,
+refusal, symbols, n, cost, mark, octets in hex, as in the customer's decode.txt.
 """
 import hashlib
 import struct
@@ -50,6 +52,10 @@ def text(bits):
 def bits_of(octets):
     """Each octet's most significant bit first."""
     return [octet >> (7 - k) & 1 for octet in octets for k in range(8)]
+
+
+def octets_of(bits):
+    return bytes(int(text(bits[at:at + 8]), 2) for at in range(0, len(bits), 8))
 
 
 def scrambled(bits, counter):
@@ -150,6 +156,99 @@ def point(carrier, group):
     return [f32_bits(level * k) for level in levels([group >> (carrier - 1 - j) & 1 for j in range(carrier)])]
 
 
+# The far end: soft bytes of readings, and of all trains the one that is wanted.
+
+def exact(width, j, reading):
+    """S of bit j of an axis of `width` bits: a whole number."""
+    r = max(-2048, min(2048, reading))
+    least = {b: min((r - 256 * level) ** 2 for word, level in LEVELS[width].items() if word[j] == b) for b in "01"}
+    s, rest = divmod(least["0"] - least["1"], 1024)
+    assert rest == 0
+    return s
+
+
+def soft_byte(width, j, reading):
+    """S / 64 to the nearest, halves away from zero."""
+    s = exact(width, j, reading)
+    return (abs(s) + 32) // 64 * (-1 if s < 0 else 1)
+
+
+def softened(carrier, i, q):
+    """The soft bytes of all carriers, I's before Q's. BPSK reads no Q."""
+    on_i, on_q = max(1, carrier // 2), carrier // 2
+    return [byte for r, s in zip(i, q)
+            for byte in [soft_byte(on_i, j, r) for j in range(on_i)] + [soft_byte(on_q, j, s) for j in range(on_q)]]
+
+
+def origins(mode, n, a):
+    """Which coded bit each sent bit is, by sending the coded bits' own numbers: X of input t is 2 t, Y is 2 t + 1."""
+    numbers = p1([2 * t for t in range(n + 6)], [2 * t + 1 for t in range(n + 6)], a)
+    return interleaved(p2(numbers, MODES[mode].rate), MODES[mode])
+
+
+# What an input and the state before it, its last six inputs with the newest the highest, give: X, Y and the state after.
+STEP = {(state, bit): (*(sum(past[lag] for lag in lags) % 2 for lags in ((0, 2, 3, 5, 6), (0, 1, 2, 3, 6))),
+                       bit << 5 | state >> 1)
+        for state in range(64) for bit in (0, 1)
+        for past in [[bit] + [state >> (6 - lag) & 1 for lag in range(1, 7)]]}
+
+
+def best_train(n, cost):
+    """The least cost of a scrambled train of n bits and, of the trains of that cost, the one with 0 at the last place where
+    two of them differ. cost[t] gives what each pair X, Y costs at input t. A train is kept as a number, its last bit the
+    highest: of two of equal cost the smaller number is the one wanted, and what follows both changes nothing in that."""
+    least = {0: (0, 0)}
+    for t, pair in enumerate(cost):
+        reached = {}
+        for state, (spent, train) in least.items():
+            for bit in (0, 1) if t < n else (0,):
+                x, y, after = STEP[state, bit]
+                found = (spent + pair[x, y], train | bit << t)
+                if after not in reached or found < reached[after]:
+                    reached[after] = found
+        least = reached
+    spent, train = least[0]
+    return spent, [train >> t & 1 for t in range(n)]
+
+
+def least_rival(n, gain, train):
+    """The least sum of gains over the trains of n bits but this one. gain[t] gives that of each pair X, Y at input t; a state
+    is kept twice, for trains that have differed by then and for the one that has not."""
+    least = {(0, False): 0}
+    for t, pair in enumerate(gain):
+        reached = {}
+        for (state, differs), spent in least.items():
+            for bit in (0, 1) if t < n else (0,):
+                x, y, after = STEP[state, bit]
+                key = after, differs or t < n and bit != train[t]
+                reached[key] = min(reached.get(key, spent + pair[x, y]), spent + pair[x, y])
+        least = reached
+    return least[0, True]
+
+
+def pairs(n, at, of_bit):
+    """For each input what its pair X, Y comes to: the sum of of_bit over those of the two that were sent."""
+    places = {m: q for q, m in enumerate(at)}
+    return [{(x, y): sum(of_bit(places[m], bit) for m, bit in ((2 * t, x), (2 * t + 1, y)) if m in places)
+             for x in (0, 1) for y in (0, 1)} for t in range(n + 6)]
+
+
+def bit_cost(soft, bit):
+    return max(0, -soft if bit else soft)
+
+
+def decoded(mode, counter, n, a, soft):
+    """The cost, the mark and the octets of the train that is returned. It is confirmed where every other train v has
+    2 cost(v) - (bits in which v differs from it) above twice its own cost."""
+    at = origins(mode, n, a)
+    cost, train = best_train(n, pairs(n, at, lambda q, bit: bit_cost(soft[q], bit)))
+    x, y = coded(train + [0] * 6)
+    own = in_turn(x, y)
+    sent = [own[m] for m in at]
+    rival = least_rival(n, pairs(n, at, lambda q, bit: 2 * bit_cost(soft[q], bit) - (bit != sent[q])), train)
+    return cost, "C" if rival > 2 * cost else "D", octets_of(scrambled(train, counter))
+
+
 # The calls, refusals in the table's order. A call without a parameter skips its test.
 
 def refusal(mode, n=None, counter=None, a=None):
@@ -203,6 +302,55 @@ def mapped(mode, group):
     return (no, [0, 0]) if no else (0, point(MODES[mode].carrier, group))
 
 
+def soften(mode, n, i, q, room):
+    """The refusal and the soft bytes at the start of the lent ones."""
+    no = refusal(mode, n)
+    symbols = 0 if no else n // MODES[mode].info
+    if no == 0 and (len(i) != 48 * symbols or len(q) != 48 * symbols):
+        no = 7
+    if no == 0 and room < symbols * MODES[mode].sent:
+        no = 8
+    return (no, []) if no else (0, softened(MODES[mode].carrier, i, q))
+
+
+NOTHING = (0, 0, 0, "-", b"")
+
+
+def decode_soft(mode, counter, n, a, soft, room_octets, room_words):
+    """The refusal, symbols, n, the rounded cost, the mark (C confirmed, D done, - refused) and the octets."""
+    no = refusal(mode, n, counter, a)
+    symbols = 0 if no else n // MODES[mode].info
+    if no == 0 and len(soft) != symbols * MODES[mode].sent:
+        no = 7
+    if no == 0 and (room_octets < n // 8 or room_words < n + 6):
+        no = 8
+    if no == 0 and any(not -80 <= byte <= 80 for byte in soft):
+        no = 9
+    return (no, *NOTHING) if no else (0, symbols, len(soft), *decoded(mode, counter, n, a, soft))
+
+
+def decode_readings(mode, counter, n, a, i, q, room_octets, room_words):
+    """The same of the readings' soft bytes."""
+    no = refusal(mode, n, counter, a)
+    symbols = 0 if no else n // MODES[mode].info
+    if no == 0 and (len(i) != 48 * symbols or len(q) != 48 * symbols):
+        no = 7
+    if no == 0 and (room_octets < n // 8 or room_words < n + 6):
+        no = 8
+    if no:
+        return (no, *NOTHING)
+    soft = softened(MODES[mode].carrier, i, q)
+    return 0, symbols, len(soft), *decoded(mode, counter, n, a, soft)
+
+
+# Document 01, "Numbers to hold against": bits on the axis, bit, reading, soft byte.
+SOFT = [
+    (1, 0, 32, 1), (1, 0, -32, -1), (1, 0, 2049, 32),
+    (1, 0, 31, 0), (1, 0, 95, 1), (1, 0, 96, 2), (1, 0, 2048, 32), (1, 0, -32768, -32),
+    (2, 0, 768, 16), (2, 1, 0, 8), (2, 1, 2048, -24), (3, 0, 2048, 80), (3, 2, 1024, 8),
+]
+
+
 # Document 01's own examples, held against the stages above before anything else is done.
 
 def known():
@@ -212,6 +360,8 @@ def known():
         assert place(k, MODES[mode]) == j
     for d, k in ((1, 0x3F800000), (2, 0x3F3504F3), (10, 0x3EA1E89B), (42, 0x3E1E01B3)):
         assert f32_bits(nearest_k(d)) == k
+    for width, j, r, soft in SOFT:
+        assert soft_byte(width, j, r) == soft
 
 
 # Recorded and made-up trains.
@@ -222,6 +372,15 @@ def recorded(path):
         kind, modes, counter, lengths, a, octets, bits = line.split()
         if kind == "data" and "," not in modes:
             yield int(modes), int(counter), int(lengths), int(a), bytes.fromhex(octets), bits
+
+
+def recorded_decodes(path):
+    """The decodes of soft bytes in a file: the call's numbers, soft bytes, and what it answers."""
+    for line in open(path, encoding="ascii"):
+        call, _, answer = line.partition(" = ")
+        kind, *numbers = call.split()
+        *counts, mark, octets = answer.split()
+        yield kind, *map(int, numbers[:4]), [*map(int, numbers[4:])], (*map(int, counts), mark, bytes.fromhex(octets))
 
 
 def drawn(label, count):
@@ -253,6 +412,11 @@ def main(words):
         wrong = [t for t in trains if text(sent_bits(t[0], t[1], t[3], t[4])) != t[5]]
         print(f"{len(trains) - len(wrong)} of {len(trains)} trains agree")
         sys.exit(1 if wrong or not trains else 0)
+    elif words[:1] == ["decoded"] and len(words) == 2:
+        calls = list(recorded_decodes(words[1]))
+        same = sum(decode_soft(*call, n // 8, n + 6) == answer for _, *call, answer in calls for n in [call[2]])
+        print(f"{same} of {len(calls)} decodes agree")
+        sys.exit(0 if calls and same == len(calls) else 1)
     elif words[:1] == ["trains"] and len(words) == 2:
         for k in range(int(words[1])):
             mode, counter, n, a, octets, bits = made(k)

@@ -7,7 +7,7 @@ use Prim.Native.Nat.{ℕ, suc, _+_, _≤_, _<_}
 use lib.IntN.{ℤ}
 use lib.ListN.{length, getD, take, drop}
 use lib.Seq.{take-at, drop-at}
-use borrow.Author.Tests.{lt-ltb, le-ltb, eq-eqb, eqb-true, not-false}
+use borrow.Author.Tests.{ltb-false, lt-ltb, le-ltb, eq-eqb, eqb-true, not-false}
 use Rattle.laws.specs.Ladder.{ladder}
 use Rattle.laws.specs.Lists.{filled}
 use Rattle.laws.proofs.LadderLaws.{ladder-front, ladder-goes-on, ladder-passed}
@@ -23,13 +23,13 @@ use Rattle.points.specs.Levels.{allBits}
 use Rattle.points.specs.Points.{idealI, idealQ}
 use Rattle.trellis.specs.Wanted.{Returned, Confirmed}
 use Rattle.modem.specs.Encode.{sentOf, sentBit, encodeRefusal, Encode}
-use Rattle.modem.specs.Ideal.{Ideal}
+use Rattle.modem.specs.Ideal.{idealRefusal, Ideal}
 use Rattle.modem.specs.Soften.{softened}
 use Rattle.modem.specs.Costs.{roundedCost, differing}
-use Rattle.modem.specs.Decode.{Outcome, outcome, trainOf, Decoded, DecodeReadings}
+use Rattle.modem.specs.Decode.{Outcome, outcome, trainOf, Decoded, readingsRefusal, DecodeReadings}
 use Rattle.modem.specs.Demands.{GivenBack}
 use Rattle.modem.proofs.IdealLaws.{ideal-done}
-use Rattle.modem.proofs.DecodeLaws.{readings-done}
+use Rattle.modem.proofs.DecodeLaws.{neither, lent-passed, readings-done}
 use Rattle.modem.proofs.TrustLaws.{sent-low}
 use Rattle.modem.proofs.ReturnLaws.{tabulate-low, sentBy, readI, readQ, ideal-returned, ideal-confirmed, ideal-cost}
 use Rattle.modem.proofs.Determined.{ideal-determined, decode-readings-determined}
@@ -144,3 +144,34 @@ module _ (mode counter N a : ℕ) (octets sent sent′ : List ℕ) (encoded : En
     chain-decoded i q on-i on-q room-o room-w r o h =
         let (done, same) = decode-readings-determined mode counter N a _ _ octets₀ words₀ r 0 o (given octets₀ words₀) (rw (on-i, on-q) at h) (given-wanted room-o room-w) in
         rw same (record { done = done; back = front; no-cost = refl; sure = refl })
+
+-- what a call that is done says of the room that it was lent
+ideal-room : (mode N : ℕ) (sent : List ℕ) (i q i′ q′ : List ℤ) → Ideal mode N sent i q 0 i′ q′ → (carriers mode N ≤ length i) × (carriers mode N ≤ length q)
+unfolding Ideal idealRefusal sized lengths
+ideal-room mode N sent i q i′ q′ h =
+    let front = ladder-front (sized mode N) _ tt (sym (h .answer)) in
+    let p7 = ladder-passed 6 _ _ (sym (ladder-goes-on (sized mode N) _ tt front) ∙ sym (h .answer)) in
+    let (on-i, on-q) = neither _ _ (ladder-passed 7 _ _ (p7 .1) .0) in
+    (ltb-false _ _ on-i, ltb-false _ _ on-q)
+
+readings-room : (mode counter N a : ℕ) (i q : List ℤ) (octets words : List ℕ) (o : Outcome) → DecodeReadings mode counter N a i q octets words 0 o
+    → (octetsOf N ≤ length octets) × (N + 6 ≤ length words)
+unfolding DecodeReadings readingsRefusal described lengths
+readings-room mode counter N a i q octets words o h =
+    let front = ladder-front (described mode counter N a) _ tt (sym (h .answer)) in
+    let (_, short, _) = lent-passed _ _ _ (sym (ladder-goes-on (described mode counter N a) _ tt front) ∙ sym (h .answer)) in
+    let (on-octets, on-words) = neither _ _ short in
+    (ltb-false _ _ on-octets, ltb-false _ _ on-words)
+
+-- three calls that are done one after the other
+pub chain-done : (mode counter N a : ℕ) (octets sent sent′ : List ℕ) (i q i′ q′ : List ℤ) (octets₀ words₀ : List ℕ) (o : Outcome)
+    → ((k : ℕ) → getD octets k 0 < 256)
+    → Encode mode counter N a octets sent 0 sent′
+    → Ideal mode N (take (sentBits mode N) sent′) i q 0 i′ q′
+    → DecodeReadings mode counter N a (take (carriers mode N) i′) (take (carriers mode N) q′) octets₀ words₀ 0 o
+    → GivenBack N octets 0 o
+chain-done mode counter N a octets sent sent′ i q i′ q′ octets₀ words₀ o low encoded read decoded =
+    let (room-i, room-q) = ideal-room mode N _ i q i′ q′ read in
+    let (room-o, room-w) = readings-room mode counter N a _ _ octets₀ words₀ o decoded in
+    let (_, on-i, on-q) = chain-ideal mode counter N a octets sent sent′ encoded i q room-i room-q 0 i′ q′ read in
+    chain-decoded mode counter N a octets sent sent′ encoded low octets₀ words₀ _ _ on-i on-q room-o room-w 0 o decoded

@@ -16,7 +16,8 @@ use Rattle.modes.specs.Refusals.{lengths, described}
 use Rattle.soft.specs.Carriers.{allSoft}
 use Rattle.modem.specs.Lent.{lent, readingsWrong, roomShort}
 use Rattle.modem.specs.Soften.{softened}
-use Rattle.modem.specs.Decode.{Outcome, outcome, nothing, Decoded, Tells, softRefusal, DecodeSoft, readingsRefusal, DecodeReadings}
+use Rattle.modem.specs.Told.{Tells}
+use Rattle.modem.specs.Decode.{Outcome, outcome, nothing, Decoded, softRefusal, DecodeSoft, readingsRefusal, DecodeReadings}
 
 -- neither of two tests holds
 pub neither : (x y : Bool) → (x || y) ≡ false → (x ≡ false) × (y ≡ false)

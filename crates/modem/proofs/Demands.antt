@@ -5,11 +5,15 @@ use mathlib.Core.List.{List}
 use Prim.Native.Nat.{ℕ, _+_, _≤_, _<_}
 use native.Mathlib.Omega.{arith}
 use lib.Ieee.{Float}
-use lib.IntN.{ℤ}
+use lib.IntN.{ℤ, pos}
 use lib.ListN.{length, getD, take, drop}
+use Rattle.laws.specs.Lists.{filled}
 use Rattle.laws.specs.Answers.{Leaves}
 use Rattle.laws.proofs.ListLaws.{filled-at, filled-drop}
+use Rattle.modes.specs.declared.Constellation.{Constellation}
+use Rattle.modes.specs.Modes.{constellationOf}
 use Rattle.modes.specs.Sizes.{carriers, sentBits, octetsOf}
+use Rattle.points.specs.Points.{idealI, idealQ}
 use Rattle.trellis.specs.Wanted.{Returned, Confirmed}
 use Rattle.trellis.proofs.WantedLaws.{returned-unique}
 use Rattle.modem.specs.Encode.{sentBit, encodeRefusal, Encode}
@@ -18,7 +22,7 @@ use Rattle.modem.specs.Point.{plusZero, mappedRefusal, MapsTo}
 use Rattle.modem.specs.Soften.{softened, softenRefusal, Soften}
 use Rattle.modem.specs.Costs.{roundedCost}
 use Rattle.modem.specs.Decode.{Outcome, nothing, trainOf, softRefusal, DecodeSoft, readingsRefusal, DecodeReadings}
-use Rattle.modem.specs.Demands.{RefusesAs, SentAs, PointAs, ReturnedAs, GivenBack, Trusted}
+use Rattle.modem.specs.Demands.{RefusesAs, SentAs, ReadAs, PointAs, ReturnedAs, GivenBack, Trusted}
 use Rattle.modem.proofs.ChainLaws.{chain-ideal, chain-decoded}
 use Rattle.modem.proofs.TrustLaws.{differing-count, costs-near}
 
@@ -68,6 +72,19 @@ demand-2-sent mode counter N a octets sent sent′ h =
     record {
       bits = λ q inside. ap (λ l. getD l q 0) is ∙ filled-at n (sentBit mode counter N a octets) sent q 0 inside;
       kept = ap (drop n) is ∙ filled-drop n (sentBit mode counter N a octets) sent;
+    }
+
+pub demand-2-ideal : (mode N : ℕ) (sent : List ℕ) (i q i′ q′ : List ℤ) → Ideal mode N sent i q 0 i′ q′ → ReadAs mode N sent i′ q′
+unfolding Ideal
+demand-2-ideal mode N sent i q i′ q′ h =
+    let is = h .done refl in
+    let c : Constellation = constellationOf mode in
+    let n : ℕ = carriers mode N in
+    let same-i : i′ ≡ filled n (idealI c sent) i = λ t. is t .0 in
+    let same-q : q′ ≡ filled n (idealQ c sent) q = λ t. is t .1 in
+    record {
+      on-i = λ k inside. ap (λ l. getD l k (pos 0)) same-i ∙ filled-at n (idealI c sent) i k (pos 0) inside;
+      on-q = λ k inside. ap (λ l. getD l k (pos 0)) same-q ∙ filled-at n (idealQ c sent) q k (pos 0) inside;
     }
 
 pub demand-2-point : (mode group : ℕ) (i q : Float) → MapsTo mode group 0 i q → PointAs mode group i q

@@ -5,7 +5,6 @@
 --   trainOf          the train that octets stand for: scrambled
 --   Chosen           what is wanted of a train that is chosen, its cost and its mark
 --   Decoded          the outcome that is wanted
---   Tells            the fields of an answer, one by one
 --   softRefusal      the refusals of `decode_soft`, 1 to 9
 --   DecodeSoft       its answer and outcome
 --   readingsRefusal  the refusals of `decode_readings`, 1 to 8
@@ -71,14 +70,6 @@ pub record Decoded (mode counter N a : ℕ) (soft : List ℤ) (octets words : Li
   pub chosen : Chosen counter N (roundedCost mode N a soft) (differing mode N a) octets words (o .cost) (o .confirmed) (o .octets) (o .words)
   pub all-symbols : o .symbols ≡ symbols mode N
   pub all-sent : o .n ≡ sentBits mode N
-
--- what a call tells: the refusal k, s symbols, n sent bits, the cost c and the mark m
-pub record Tells (k s n c : ℕ) (m : Bool) (refusal symbols sent cost : ℕ) (confirmed : Bool) : Type 0 where
-  pub refusal-is : refusal ≡ k
-  pub symbols-is : symbols ≡ s
-  pub sent-is : sent ≡ n
-  pub cost-is : cost ≡ c
-  pub mark-is : confirmed ≡ m
 
 -- refusals 1 to 6, then 7 for the soft bytes, 8, and 9 for a soft byte outside -80 to 80
 unfoldable pub softRefusal : (mode counter N a : ℕ) → List ℤ → (octets words : List ℕ) → ℕ

@@ -1,6 +1,7 @@
 -- THE THREE DEMANDS, in the customer's words, of what a call answers and leaves. Demands.antt of proofs/ shows each from the calls' promises.
 --   RefusesAs      1: which refusal a call gives, and that it then leaves everything as it was
 --   SentAs         2: the n sent bits are those that document 01 fixes, and what lies behind them is as it was
+--   ReadAs         2: the ideal readings are 256 times the levels of the groups
 --   PointAs        2: the point is the level times K on each axis
 --   ReturnedAs     2: of all trains of N bits the one of least rounded cost, of equals the one by the rule
 --   GivenBack      2: what went in at the one end came out at the other, at no cost and confirmed
@@ -12,13 +13,13 @@ use mathlib.Core.Logic.{_≢_}
 use mathlib.Core.List.{List}
 use Prim.Native.Nat.{ℕ, _+_, _*_, _≤_, _<_}
 use lib.Ieee.{Float}
-use lib.IntN.{ℤ}
+use lib.IntN.{ℤ, pos}
 use lib.ListN.{getD, take, drop}
 use Rattle.modes.specs.Modes.{constellationOf}
-use Rattle.modes.specs.Sizes.{sentBits, octetsOf}
+use Rattle.modes.specs.Sizes.{carriers, sentBits, octetsOf}
 use Rattle.coder.specs.Train.{Train}
 use Rattle.points.specs.Levels.{levelI, levelQ}
-use Rattle.points.specs.Points.{part}
+use Rattle.points.specs.Points.{idealI, idealQ, part}
 use Rattle.trellis.specs.Wanted.{Returned, Confirmed}
 use Rattle.modem.specs.Encode.{sentBit}
 use Rattle.modem.specs.Soften.{softened}
@@ -34,6 +35,11 @@ pub record RefusesAs {B : Type 0} (number : ℕ) (before : B) (r : ℕ) (left : 
 pub record SentAs (mode counter N a : ℕ) (octets sent sent′ : List ℕ) : Type 0 where
   pub bits : (q : ℕ) → q < sentBits mode N → getD sent′ q 0 ≡ sentBit mode counter N a octets q
   pub kept : drop (sentBits mode N) sent′ ≡ drop (sentBits mode N) sent
+
+-- on each axis the reading of carrier k is 256 times the level of its group
+pub record ReadAs (mode N : ℕ) (sent : List ℕ) (i′ q′ : List ℤ) : Type 0 where
+  pub on-i : (k : ℕ) → k < carriers mode N → getD i′ k (pos 0) ≡ idealI (constellationOf mode) sent k
+  pub on-q : (k : ℕ) → k < carriers mode N → getD q′ k (pos 0) ≡ idealQ (constellationOf mode) sent k
 
 -- each part is the level times K by one f32 multiplication
 pub record PointAs (mode group : ℕ) (i q : Float) : Type 0 where

@@ -4,5 +4,6 @@ pub mod Point
 pub mod Costs
 pub mod Lent
 pub mod Soften
+pub mod Told
 pub mod Decode
 pub mod Demands

@@ -15,7 +15,8 @@ ghost use Rattle.search.specs.Bytes.{costOf, heardOf};
 ghost use Rattle.soft.specs.Carriers.{allSoft};
 ghost use Rattle.modem.specs.Costs.{roundedCost, differing};
 ghost use Rattle.modem.specs.Lent.{lent};
-ghost use Rattle.modem.specs.Decode.{outcome, Chosen, Tells, DecodeSoft};
+ghost use Rattle.modem.specs.Told.{Tells};
+ghost use Rattle.modem.specs.Decode.{outcome, Chosen, DecodeSoft};
 
 // What a decode answers: a refusal number, and where that is 0 the symbols, the sent bits, the rounded cost and the mark.
 pub struct Answer {

@@ -1,8 +1,16 @@
 // Words that write bytes, two hexadecimal digits for each: octets, or sent bits of which a byte holds one.
 use crate::words;
 use words::Field;
+ghost use mathlib.Core.Path.{_≡_};
 ghost use Prim.Native.Nat.{_*_, _≤_};
 ghost use lib.ListN.{length};
+
+// Room for the bytes that a word writes.
+pub(crate) fn room() -> [u8; 14000]
+    ensures { λ r. ⌜ length r ≡ 14000 ⌝ }
+{
+    [0; 14000]
+}
 
 // The value of a hexadecimal digit in lower case; 16 for any other byte.
 fn hex_digit(byte: u8) -> u8 {

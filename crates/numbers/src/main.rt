@@ -3,63 +3,49 @@
 //     encode MODE COUNTER N A OCTETS ROOM       refusal, sent bits
 //     ideal MODE N SENT ROOM-I ROOM-Q           refusal, i, readings, q, readings
 //     mapped MODE GROUP                         refusal, the bits of the two f32 parts in hexadecimal
+//     soften MODE N I Q ROOM                    refusal, soft bytes
+//     decode_soft MODE COUNTER N A SOFT ROOM-OCTETS ROOM-WORDS
+//     decode_readings MODE COUNTER N A I Q ROOM-OCTETS ROOM-WORDS
+//                                               refusal, symbols, n, cost, mark (C D -), octets in hexadecimal, how many words
+//                                               at the front are zero, and where those end that are then as they were
 //
-// OCTETS and SENT are bytes in hexadecimal, `-` for none. ROOM is how many elements are lent for the answer; all of them are
-// printed, 7 where the call wrote nothing. The run ends at the first line that is none of these. host/reference.py makes the
-// input and, from the documents, the output that is expected.
+// OCTETS, SENT and SOFT are bytes in hexadecimal, I and Q readings of four digits, `-` for none; signed numbers in two's
+// complement. ROOM is how many elements are lent for the answer; all of them are printed, 7 where the call wrote nothing, or 100
+// for a soft byte. The run ends at the first line that is none of these. host/reference.py makes the input and, from the
+// documents, the output that is expected.
 mod bytes;
+mod far;
 mod shown;
+mod signed;
 mod words;
 
 use libc::STDIN_FILENO;
 use libc::STDOUT_FILENO;
 use shown::MARK;
 use shown::MARK_READING;
+use words::Description;
 use words::Field;
+ghost use mathlib.Core.Path.{_≡_};
+ghost use lib.ListN.{length};
 
-// The most that is lent.
-const MOST: usize = 7000;
-
-// Ends the run.
-fn failed() -> Field {
-    Field {
-        value: 0,
-        at: 0,
-        good: false,
-    }
-}
-
-fn show_encode(mode: u32, counter: u32, n: u32, a: u32, octets: &[u8], sent: &mut [u8]) {
-    let refusal = modem::encode(mode, counter, n, a, octets, sent);
+fn show_encode(d: Description, octets: &[u8], sent: &mut [u8]) {
+    let refusal = modem::encode(d.mode, d.counter, d.n, d.a, octets, sent);
     io::print_decimal(STDOUT_FILENO, refusal as u64);
     shown::bits(sent);
 }
 
 fn encode(text: &[u8], f: Field) -> Field {
-    let mode = words::number(text, f);
-    let counter = words::number(text, mode);
-    let n = words::number(text, counter);
-    let a = words::number(text, n);
-    let mut octets = [0u8; 512];
-    let given = bytes::list(text, a, &mut octets);
-    let room = words::number(text, given);
+    let d = words::described(text, f);
+    let mut octets = bytes::room();
+    let given = bytes::list(text, d.last, &mut octets);
+    let room = words::room(text, given);
     if !room.good {
-        return failed();
+        return room;
     }
     let many = given.value;
     let size = room.value;
-    if size > MOST {
-        return failed();
-    }
     let mut sent = [MARK; 7000];
-    show_encode(
-        mode.value as u32,
-        counter.value as u32,
-        n.value as u32,
-        a.value as u32,
-        &octets[0..many],
-        &mut sent[0..size],
-    );
+    show_encode(d, &octets[0..many], &mut sent[0..size]);
     room
 }
 
@@ -75,22 +61,16 @@ fn show_ideal(mode: u32, n: u32, sent: &[u8], i: &mut [i16], q: &mut [i16]) {
 fn ideal(text: &[u8], f: Field) -> Field {
     let mode = words::number(text, f);
     let n = words::number(text, mode);
-    let mut sent = [0u8; 7000];
+    let mut sent = bytes::room();
     let given = bytes::list(text, n, &mut sent);
-    let room_i = words::number(text, given);
-    let room_q = words::number(text, room_i);
+    let room_i = words::room(text, given);
+    let room_q = words::room(text, room_i);
     if !room_q.good {
-        return failed();
+        return room_q;
     }
     let many = given.value;
     let size_i = room_i.value;
     let size_q = room_q.value;
-    if size_i > MOST {
-        return failed();
-    }
-    if size_q > MOST {
-        return failed();
-    }
     let mut i = [MARK_READING; 7000];
     let mut q = [MARK_READING; 7000];
     show_ideal(
@@ -107,7 +87,7 @@ fn mapped(text: &[u8], f: Field) -> Field {
     let mode = words::number(text, f);
     let group = words::number(text, mode);
     if !group.good {
-        return failed();
+        return group;
     }
     let answer = modem::mapped(mode.value as u32, group.value as u32);
     let point = answer.point;
@@ -134,7 +114,7 @@ fn command(text: &[u8], at: usize) -> Field {
     if check::same(name, b"mapped") {
         return mapped(text, f);
     }
-    failed()
+    far::command(text, name, f)
 }
 
 fn run(text: &[u8]) {
@@ -152,8 +132,14 @@ fn run(text: &[u8]) {
     }
 }
 
+fn text_room() -> [u8; 262144]
+    ensures { λ r. ⌜ length r ≡ 262144 ⌝ }
+{
+    [0; 262144]
+}
+
 fn main() {
-    let mut text = io::large_buffer();
+    let mut text = text_room();
     let n = io::read_full(STDIN_FILENO, &mut text);
     run(&text[..n]);
 }

@@ -1,8 +1,11 @@
 // The words of the input, which blanks and line ends part from each other, and the numbers that they write.
-ghost use Prim.Native.Nat.{_<_};
+ghost use Prim.Native.Nat.{_<_, _≤_};
 
 // One more than the largest number that a word may write.
 const LIMIT: u64 = 4294967296;
+
+// The most that is lent.
+const MOST: usize = 7000;
 
 // What was read last, a number or a count of bytes, and the place after its word. `good` is false once a word was not what
 // was asked for.
@@ -10,6 +13,26 @@ pub(crate) struct Field {
     pub(crate) value: usize,
     pub(crate) at: usize,
     pub(crate) good: bool,
+}
+
+// A train's description, and the last of its fields.
+pub(crate) struct Description {
+    pub(crate) mode: u32,
+    pub(crate) counter: u32,
+    pub(crate) n: u32,
+    pub(crate) a: u32,
+    pub(crate) last: Field,
+}
+
+// Ends the run.
+pub(crate) fn failed() -> Field
+    ensures { λ r. ⌜ r .value ≤ 0 ⌝ }
+{
+    Field {
+        value: 0,
+        at: 0,
+        good: false,
+    }
 }
 
 // The first place from `at` on whose byte is no gap or, where `gaps` is false, is one.
@@ -87,5 +110,31 @@ pub(crate) fn number(text: &[u8], f: Field) -> Field
             at,
             good: false,
         }
+    }
+}
+
+// How many elements are to be lent, in the word after the field `f`.
+pub(crate) fn room(text: &[u8], f: Field) -> Field
+    ensures { λ r. ⌜ r .value ≤ 7000 ⌝ }
+{
+    let size = number(text, f);
+    if size.value > MOST {
+        return failed();
+    }
+    size
+}
+
+// The four numbers in the words after the field `f`.
+pub(crate) fn described(text: &[u8], f: Field) -> Description {
+    let mode = number(text, f);
+    let counter = number(text, mode);
+    let n = number(text, counter);
+    let a = number(text, n);
+    Description {
+        mode: mode.value as u32,
+        counter: counter.value as u32,
+        n: n.value as u32,
+        a: a.value as u32,
+        last: a,
     }
 }

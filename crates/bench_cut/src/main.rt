@@ -1,0 +1,4 @@
+// The bench on 150 records and a cut one.
+fn main() {
+    bench_run::run();
+}

@@ -1,0 +1,4 @@
+// The bench on no input at all.
+fn main() {
+    bench_run::run();
+}

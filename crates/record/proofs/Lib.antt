@@ -1,0 +1,3 @@
+pub mod RunLaws
+pub mod LineLaws
+pub mod Determined

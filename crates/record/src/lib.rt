@@ -1,0 +1,139 @@
+// One record of the bench (document 01): 60 bytes in, the values of its line out. It encodes, takes ideal readings, decodes.
+// Refusals 1 to 6, of which 3 is for N above 432 too; refusal 10, for a record that was cut, is its reader's to give. Reading
+// and printing are not done here.
+use modem::Answer;
+ghost use mathlib.Core.Path.{_≡_};
+ghost use mathlib.Core.Bool.{false};
+ghost use Prim.Native.Nat.{_≤_};
+ghost use lib.ListN.{length};
+ghost use Rattle.laws.specs.Ladder.{ladder};
+ghost use Rattle.modes.specs.Sizes.{octetsOf};
+ghost use Rattle.modes.specs.Refusals.{described};
+ghost use Rattle.record.specs.Record.{two, lineRefusal, line, Run, LineOf, markOf};
+
+fn wide(byte: u8) -> u32
+    ensures { λ r. ⌜ r ≡ byte ⌝ }
+{
+    byte as u32
+}
+
+// Two bytes, high byte first.
+fn number(high: u8, low: u8) -> u32
+    ensures { λ r. ⌜ r ≡ two high low ⌝ }
+{
+    256 * (high as u32) + (low as u32)
+}
+
+// Room for the sent bits of 432 bits, and for the octets, the readings and the working words.
+fn sent_room() -> [u8; 864]
+    ensures { λ r. ⌜ length r ≡ 864 ⌝ }
+{
+    [0; 864]
+}
+
+fn octets_room() -> [u8; 54]
+    ensures { λ r. ⌜ length r ≡ 54 ⌝ }
+{
+    [0; 54]
+}
+
+fn readings_room() -> [i16; 864]
+    ensures { λ r. ⌜ length r ≡ 864 ⌝ }
+{
+    [0; 864]
+}
+
+fn words_room() -> [u64; 438]
+    ensures { λ r. ⌜ length r ≡ 438 ⌝ }
+{
+    [0; 438]
+}
+
+// What is tested before a record is encoded.
+fn refusal(mode: u32, counter: u32, n: u32, a: u32) -> u32
+    ensures { λ r. ⌜ r ≡ lineRefusal mode counter n a ⌝ }
+{
+    if mode < 1 {
+        return 1;
+    }
+    if 7 < mode {
+        return 1;
+    }
+    if 15 < counter {
+        return 2;
+    }
+    if 432 < n {
+        return 3;
+    }
+    modes::refusal(mode, counter, n, a)
+}
+
+// Encodes, takes ideal readings, decodes: a record of which all has been tested.
+fn run(mode: u32, counter: u32, n: u32, a: u32, octets: &[u8]) -> Answer
+    requires { ⌜ (ladder (described mode counter n a) ≡ 0) × (n ≤ 432) × (length (now octets) ≡ octetsOf n) ⌝ }
+    ensures { λ r. ⌜ (r .refusal ≡ 0) × Run mode counter n a (now (octets .entry)) (line (r .symbols) (r .n) (r .cost) (r .confirmed)) ⌝ }
+{
+    let train = modes::train_of(mode, counter, n, a);
+    let bits = modes::sent_bits(train.mode, train.n);
+    let carriers = 48 * modes::symbols_of(train.mode, train.n);
+    let mut sent = sent_room();
+    modem::encode(mode, counter, n, a, octets, &mut sent);
+    let mut i = readings_room();
+    let mut q = readings_room();
+    modem::ideal(mode, n, &sent[0..bits], &mut i, &mut q);
+    let mut back = octets_room();
+    let mut words = words_room();
+    modem::decode_readings(
+        mode,
+        counter,
+        n,
+        a,
+        &i[0..carriers],
+        &q[0..carriers],
+        &mut back,
+        &mut words,
+    )
+}
+
+// What the line of a refused record says.
+pub fn refused(refusal: u32) -> Answer
+    ensures { λ r. ⌜ (r .refusal ≡ refusal) × (r .symbols ≡ 0) × (r .n ≡ 0) × (r .cost ≡ 0) × (r .confirmed ≡ false) ⌝ }
+{
+    Answer {
+        refusal,
+        symbols: 0,
+        n: 0,
+        cost: 0,
+        confirmed: false,
+    }
+}
+
+// What the line of a record says.
+pub fn line_of(bytes: &[u8; 60]) -> Answer
+    ensures { λ r. ⌜ LineOf (now (bytes .entry)) (r .refusal) (line (r .symbols) (r .n) (r .cost) (r .confirmed)) ⌝ }
+{
+    let mode = wide(bytes[0]);
+    let counter = wide(bytes[1]);
+    let n = number(bytes[2], bytes[3]);
+    let a = number(bytes[4], bytes[5]);
+    let no = refusal(mode, counter, n, a);
+    if no != 0 {
+        return refused(no);
+    }
+    let end = 6 + (n as usize) / 8;
+    let all = &bytes[..];
+    run(mode, counter, n, a, &all[6..end])
+}
+
+// The last letter of a line.
+pub fn mark_of(answer: Answer) -> u8
+    ensures { λ r. ⌜ r ≡ markOf (answer .refusal) (answer .confirmed) ⌝ }
+{
+    if answer.refusal != 0 {
+        return b'-';
+    }
+    if answer.confirmed {
+        return b'C';
+    }
+    b'D'
+}
