@@ -1,46 +1,20 @@
 -- A scrambled train back to octets: each turn, and that scrambling the octets gives the train.
 -- Assumes nothing.
 use mathlib.Core.Path.{_≡_, refl, sym, _∙_, ap}
-use mathlib.Core.Bool.{Bool, true, false}
 use mathlib.Core.List.{List}
-use Prim.Native.Nat.{ℕ, zero, suc, _+_, _-_, _*_, _/_, _%_, _^_, _≤_, _<_}
-use native.Mathlib.Nat.{add-zero, pow-suc, mul-comm, div-div-eq-div-mul}
+use Prim.Native.Nat.{ℕ, suc, _+_, _-_, _*_, _/_, _%_, _^_, _≤_, _<_}
+use native.Mathlib.Nat.{add-zero, pow-suc}
 use native.Mathlib.Numerals.{add-one}
 use native.Mathlib.Omega.{arith}
-use lib.Dec.{ltb}
 use lib.ListN.{length, getD, take, set, length-set}
 use lib.Pow.{pow-mono}
 use lib.Seq.{ext-getD, getD-take}
-use borrow.Author.Tests.{ltb-true, ltb-false}
 use Rattle.laws.specs.Lists.{tabulate, filled}
+use Rattle.laws.specs.Packing.{written}
+use Rattle.laws.proofs.PackingLaws.{written-low, written-bit}
 use Rattle.laws.proofs.ListLaws.{tabulate-length, tabulate-at, filled-none, filled-put}
-use Rattle.coder.specs.Scrambler.{bitOf, output, shifted, state, scrambledBit, scrambled, descrambledBit, written, octetAt}
+use Rattle.coder.specs.Scrambler.{bitOf, output, shifted, state, scrambledBit, scrambled, descrambledBit, octetAt}
 use Rattle.coder.specs.Train.{Train}
-
-module _ (f : ℕ → ℕ) (bits : (t : ℕ) → f t < 2) (from : ℕ) where
-  -- bits write a number of as many bits
-  written-low : (n : ℕ) → written f from n < 2 ^ n
-  unfolding written
-  written-low zero = omega arith
-  written-low (suc n) = rw (pow-suc 2 n) (omega (arith, written-low n, bits (from + n)))
-
-  -- and each can be read back
-  written-bit : (n i : ℕ) → i < n → written f from n / 2 ^ (n - 1 - i) % 2 ≡ f (from + i)
-  unfolding written
-  written-bit (suc n) i h = go (ltb i n) refl (written-bit n i)
-    where
-      go : (b : Bool) → ltb i n ≡ b → (i < n → written f from n / 2 ^ (n - 1 - i) % 2 ≡ f (from + i))
-          → (2 * written f from n + f (from + n)) / 2 ^ (suc n - 1 - i) % 2 ≡ f (from + i)
-      go true t earlier =
-          let inside : i < n = ltb-true i n t in
-          let m : ℕ = n - 1 - i in
-          let up : suc n - 1 - i ≡ suc m = omega arith in
-          let half : (2 * written f from n + f (from + n)) / 2 ≡ written f from n = omega (arith, bits (from + n)) in
-          rw (up, pow-suc 2 m, mul-comm (2 ^ m) 2, ← div-div-eq-div-mul (2 * written f from n + f (from + n)) 2 (2 ^ m), half) (earlier inside)
-      go false t earlier =
-          let last : i ≡ n = omega (arith, ltb-false i n t) in
-          let none : suc n - 1 - i ≡ 0 = omega arith in
-          rw (none, last) (omega (arith, bits (from + n)))
 
 descrambled-bit : (counter : ℕ) (w : List ℕ) (t : ℕ) → descrambledBit counter w t < 2
 unfolding descrambledBit

@@ -11,6 +11,7 @@ use Prim.Native.Nat.{ℕ, zero, suc, _+_, _-_, _*_, _/_, _%_, _^_}
 use mathlib.Core.List.{List}
 use lib.ListN.{getD}
 use Rattle.laws.specs.Lists.{tabulate}
+use Rattle.laws.specs.Packing.{written}
 
 -- bit t of a train's octets, most significant bit first
 abbrev pub bitOf : List ℕ → ℕ → ℕ
@@ -44,11 +45,6 @@ scrambled counter N octets = tabulate N (scrambledBit counter octets)
 -- one bit of a scrambled train xored with the same output: descrambling is the same
 unfoldable pub descrambledBit : ℕ → List ℕ → ℕ → ℕ
 descrambledBit counter w t = (getD w t 0 + output (state counter t)) % 2
-
--- the number that n bits from `from` on write, the first the highest
-unfoldable pub written : (ℕ → ℕ) → ℕ → ℕ → ℕ
-written f from zero = 0
-written f from (suc n) = 2 * written f from n + f (from + n)
 
 -- octet k of a train that is descrambled
 unfoldable pub octetAt : ℕ → List ℕ → ℕ → ℕ

@@ -1,14 +1,14 @@
 -- The C names of the decodes fix their answers too: their promises are those of `modem`, with the mark as 1 or 0. (The other C names have
 -- the very promises of their calls.)
 -- Assumes nothing.
-use mathlib.Core.Path.{_≡_, refl, sym, ap}
+use mathlib.Core.Path.{_≡_, refl, sym}
 use mathlib.Core.Bool.{true≢false}
 use mathlib.Core.List.{List}
 use Prim.Native.Nat.{ℕ, zero, suc, _≤_}
 use native.Mathlib.Omega.{arith}
 use lib.Dec.{eqb}
 use lib.IntN.{ℤ}
-use Rattle.modem.specs.Decode.{Outcome, outcome, DecodeSoft, DecodeReadings}
+use Rattle.modem.specs.Decode.{outcome, DecodeSoft, DecodeReadings}
 use Rattle.modem.proofs.Determined.{decode-soft-determined, decode-readings-determined}
 
 -- a flag is 1 or 0

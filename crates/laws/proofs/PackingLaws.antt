@@ -1,11 +1,11 @@
--- Laws of packed bits: their bound, one bit read, two parts joined.
+-- Laws of packed and of written bits: their bound, one bit read, two parts joined and taken apart.
 -- Assumes nothing.
-use mathlib.Core.Path.{_≡_, refl, ap, ap₂}
-use Prim.Native.Nat.{ℕ, zero, suc, _+_, _*_, _/_, _%_, _^_, _<_}
-use native.Mathlib.Nat.{not-suc-le-zero, add-zero, add-suc, pow-suc, pow-succ', mul-add, mul-assoc, mul-left-comm, div-div-eq-div-mul}
+use mathlib.Core.Path.{_≡_, refl, ap, ap₂, _∙_}
+use Prim.Native.Nat.{ℕ, zero, suc, _+_, _-_, _*_, _/_, _%_, _^_, _<_}
+use native.Mathlib.Nat.{not-suc-le-zero, add-zero, add-suc, add-assoc, pow-suc, pow-succ', mul-add, mul-assoc, mul-left-comm, div-div-eq-div-mul}
 use native.Mathlib.Omega.{arith}
-use lib.Pow.{pow-add}
-use Rattle.laws.specs.Packing.{packed}
+use lib.Pow.{pow-add, high, low}
+use Rattle.laws.specs.Packing.{packed, written}
 
 -- the bits alone tell
 pub packed-ext : (n : ℕ) (f g : ℕ → ℕ) → ((s : ℕ) → s < n → f s ≡ g s) → packed n f ≡ packed n g
@@ -50,3 +50,30 @@ packed-join m (suc n) f = rw (add-suc m n, packed-join m n f, pow-add 2 m n) (go
   where
     go : (x a b y : ℕ) → packed m f + b * y + x * (b * a) ≡ packed m f + b * (y + x * a)
     go x a b y = rw (mul-add b y (x * a), mul-left-comm x b a) (omega arith)
+
+-- bits written one after the other
+written-join : (f : ℕ → ℕ) (from m n : ℕ) → written f from (m + n) ≡ written f from m * 2 ^ n + written f (from + m) n
+unfolding written
+written-join f from m zero = rw (add-zero m) (omega arith)
+written-join f from m (suc n) = rw (add-suc, written-join f from m n, add-assoc, pow-suc 2 n) (omega arith)
+
+module _ (f : ℕ → ℕ) (bits : (t : ℕ) → f t < 2) where
+  pub written-low : (from n : ℕ) → written f from n < 2 ^ n
+  unfolding written
+  written-low from zero = omega arith
+  written-low from (suc n) = rw (pow-suc 2 n) (omega (arith, written-low from n, bits (from + n)))
+
+  -- the first m of them, and the last n
+  pub written-first : (from m n : ℕ) → written f from (m + n) / 2 ^ n ≡ written f from m
+  written-first from m n = rw (written-join f from m n) (high (written f from m) n (written-low (from + m) n))
+
+  pub written-last : (from m n : ℕ) → written f from (m + n) % 2 ^ n ≡ written f (from + m) n
+  written-last from m n = rw (written-join f from m n) (low (written f from m) n (written-low (from + m) n))
+
+  -- and each can be read back
+  pub written-bit : (from n j : ℕ) → j < n → written f from n / 2 ^ (n - 1 - j) % 2 ≡ f (from + j)
+  unfolding written
+  written-bit from n j h =
+      let e : n ≡ suc j + (n - 1 - j) = omega arith in
+      ap (λ k. written f from k / 2 ^ (n - 1 - j) % 2) e
+      ∙ rw (written-first from (suc j) (n - 1 - j)) (omega (arith, bits (from + j)))

@@ -12,22 +12,23 @@ use lib.ListN.{length, getD, drop, drop-of-length-le}
 use lib.Pow.{pow-mono}
 use lib.Seq.{drop-cons}
 use borrow.Author.Tests.{le-ltb, lt-ltb}
+use Rattle.laws.specs.Packing.{written}
 use Rattle.points.specs.Levels.{valueOf, allBits}
 
 value-bound : (l : List ℕ) → ((i : ℕ) → getD l i 0 < 256) → (from k : ℕ) → valueOf l from k + 255 ≤ 255 * 2 ^ k
-unfolding valueOf
+unfolding written
 value-bound l byte from zero = omega arith
 value-bound l byte from (suc k) = rw (pow-suc 2 k) (omega (arith, value-bound l byte from k, byte (from + k)))
 
 -- one bit more, and six bytes at most make a small value
 pub value-next : (l : List ℕ) (from k : ℕ) → 2 * valueOf l from k + getD l (from + k) 0 ≡ valueOf l from (k + 1)
-unfolding valueOf
+unfolding written
 value-next l from k = rw (add-one k)
 
 pub value-small : (l : List ℕ) → ((i : ℕ) → getD l i 0 < 256) → (from k : ℕ)
     → k < 6
     → 2 * valueOf l from k + getD l (from + k) 0 < 2 ^ 14
-unfolding valueOf
+unfolding written
 value-small l byte from k h =
     let p : 2 ^ suc k ≤ 2 ^ 6 = pow-mono h in
     omega (arith, value-bound l byte from (suc k))

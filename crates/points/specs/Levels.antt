@@ -8,13 +8,14 @@
 --   group            the value of the b bits of one carrier
 --   allBits          whether every byte is 0 or 1
 -- Assumes nothing.
-use Prim.Native.Nat.{ℕ, zero, suc, _+_, _-_, _*_, _/_, _%_, _^_}
+use Prim.Native.Nat.{ℕ, _-_, _*_, _/_, _%_, _^_}
 use mathlib.Core.Bool.{Bool, true, _&&_}
 use mathlib.Core.List.{List, [], _∷_}
 use lib.IntN.{ℤ, pos, negℤ}
 use lib.Dec.{ltb, eqb}
 use lib.ListN.{getD}
 use Rattle.laws.specs.Lists.{choose}
+use Rattle.laws.specs.Packing.{written}
 use Rattle.modes.specs.declared.Constellation.{Constellation}
 use Rattle.modes.specs.Modes.{bitsOf}
 
@@ -74,9 +75,8 @@ unfoldable pub levelQ : Constellation → ℕ → ℤ
 levelQ c g = level (table (widthQ c)) (g % 2 ^ widthQ c)
 
 -- the value of the b bits from `from` on, the earliest the highest
-unfoldable pub valueOf : List ℕ → ℕ → ℕ → ℕ
-valueOf bits from zero = 0
-valueOf bits from (suc b) = 2 * valueOf bits from b + getD bits (from + b) 0
+abbrev pub valueOf : List ℕ → ℕ → ℕ → ℕ
+valueOf bits from b = written (λ m. getD bits m 0) from b
 
 -- the value of the b bits of carrier c
 unfoldable pub group : ℕ → List ℕ → ℕ → ℕ

@@ -1,6 +1,7 @@
 // One record of the bench (document 01): 60 bytes in, the values of its line out. It encodes, takes ideal readings, decodes.
 // Refusals 1 to 6, of which 3 is for N above 432 too; refusal 10, for a record that was cut, is its reader's to give. Reading
 // and printing are not done here.
+use coder::wide;
 use modem::Answer;
 ghost use mathlib.Core.Path.{_≡_};
 ghost use mathlib.Core.Bool.{false};
@@ -10,12 +11,6 @@ ghost use Rattle.laws.specs.Ladder.{ladder};
 ghost use Rattle.modes.specs.Sizes.{octetsOf};
 ghost use Rattle.modes.specs.Refusals.{described};
 ghost use Rattle.record.specs.Record.{two, lineRefusal, line, Run, LineOf, markOf};
-
-fn wide(byte: u8) -> u32
-    ensures { λ r. ⌜ r ≡ byte ⌝ }
-{
-    byte as u32
-}
 
 // Two bytes, high byte first.
 fn number(high: u8, low: u8) -> u32

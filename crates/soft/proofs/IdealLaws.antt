@@ -10,46 +10,51 @@ use lib.Dec.{ltb}
 use lib.IntN.{ℤ, pos}
 use lib.ListN.{getD}
 use borrow.Author.Tests.{ltb-true, ltb-false}
+use Rattle.laws.proofs.PackingLaws.{written-low, written-first, written-last, written-bit}
 use Rattle.modes.specs.declared.Constellation.{Constellation}
 use Rattle.modes.specs.Modes.{bitsOf}
 use Rattle.points.specs.Levels.{widthI, widthQ, levelI, levelQ, valueOf, group}
 use Rattle.points.specs.Points.{idealI, idealQ}
-use Rattle.soft.specs.Soft.{bitCost}
+use Rattle.soft.specs.Soft.{bitAt, bitCost}
 use Rattle.soft.specs.Carriers.{softAt}
 use Rattle.soft.proofs.IdealTest.{Clear, idealByte, clear-at}
 use Rattle.soft.proofs.Runs.{ideal-tested}
 use Rattle.soft.proofs.CarrierLaws.{widths, within, soft-on-i, soft-on-q}
-use Rattle.soft.proofs.ValueLaws.{value-below, value-high, value-low, value-bit}
 
 module _ (c : Constellation) (sent : List ℕ) (bit : (m : ℕ) → getD sent m 0 < 2) (i q : List ℤ) (k : ℕ) where
+  -- bit j of w sent bits
+  bit-at : (from w j : ℕ) → j < w → bitAt w j (valueOf sent from w) ≡ getD sent (from + j) 0
+  unfolding bitAt
+  bit-at from w j h = written-bit (λ m. getD sent m 0) bit from w j h
+
   -- the bits of carrier k that are for I, and those that are for Q
   on-i : group (bitsOf c) sent k / 2 ^ widthQ c ≡ valueOf sent (bitsOf c * k) (widthI c)
   unfolding group
   on-i =
       ap (λ n. valueOf sent (bitsOf c * k) n / 2 ^ widthQ c) (sym (widths c .0))
-      ∙ value-high sent bit (bitsOf c * k) (widthI c) (widthQ c)
+      ∙ written-first (λ m. getD sent m 0) bit (bitsOf c * k) (widthI c) (widthQ c)
 
   on-q : group (bitsOf c) sent k % 2 ^ widthQ c ≡ valueOf sent (bitsOf c * k + widthI c) (widthQ c)
   unfolding group
   on-q =
       ap (λ n. valueOf sent (bitsOf c * k) n % 2 ^ widthQ c) (sym (widths c .0))
-      ∙ value-low sent bit (bitsOf c * k) (widthI c) (widthQ c)
+      ∙ written-last (λ m. getD sent m 0) bit (bitsOf c * k) (widthI c) (widthQ c)
 
   clear-i : getD i k (pos 0) ≡ idealI c sent k → (j : ℕ) → j < widthI c
       → Clear (softAt c i q (bitsOf c * k + j)) (getD sent (bitsOf c * k + j) 0)
   unfolding idealI levelI idealByte
   clear-i e j h =
       let v = valueOf sent (bitsOf c * k) (widthI c) in
-      rw (soft-on-i c i q k j h, e, on-i, ← value-bit sent bit (bitsOf c * k) (widthI c) j h)
-      (clear-at ideal-tested (widthI c) j v h (widths c .1) (value-below sent bit (bitsOf c * k) (widthI c)))
+      rw (soft-on-i c i q k j h, e, on-i, ← bit-at (bitsOf c * k) (widthI c) j h)
+      (clear-at ideal-tested (widthI c) j v h (widths c .1) (written-low (λ m. getD sent m 0) bit (bitsOf c * k) (widthI c)))
 
   clear-q : getD q k (pos 0) ≡ idealQ c sent k → (j : ℕ) → j < widthQ c
       → Clear (softAt c i q (bitsOf c * k + (widthI c + j))) (getD sent (bitsOf c * k + (widthI c + j)) 0)
   unfolding idealQ levelQ idealByte
   clear-q e j h =
       let v = valueOf sent (bitsOf c * k + widthI c) (widthQ c) in
-      rw (soft-on-q c i q k j h, e, on-q, ← add-assoc, ← value-bit sent bit (bitsOf c * k + widthI c) (widthQ c) j h)
-      (clear-at ideal-tested (widthQ c) j v h (widths c .2) (value-below sent bit (bitsOf c * k + widthI c) (widthQ c)))
+      rw (soft-on-q c i q k j h, e, on-q, ← add-assoc, ← bit-at (bitsOf c * k + widthI c) (widthQ c) j h)
+      (clear-at ideal-tested (widthQ c) j v h (widths c .2) (written-low (λ m. getD sent m 0) bit (bitsOf c * k + widthI c) (widthQ c)))
 
   clear : getD i k (pos 0) ≡ idealI c sent k → getD q k (pos 0) ≡ idealQ c sent k → (j : ℕ) → j < bitsOf c
       → Clear (softAt c i q (bitsOf c * k + j)) (getD sent (bitsOf c * k + j) 0)

@@ -8,5 +8,4 @@ pub mod StoredLaws
 pub mod CarrierLaws
 pub mod RangeLaws
 pub mod CostLaws
-pub mod ValueLaws
 pub mod IdealLaws

@@ -3,6 +3,7 @@
 use mathlib.Core.Path.{_≡_, refl, ap, _∙_}
 use Prim.Native.Nat.{_+_, _-_, _≤_}
 use native.Mathlib.Omega.{arith}
+use Rattle.laws.specs.Packing.{written}
 use Rattle.points.specs.Levels.{valueOf}
 use Rattle.points.proofs.BitLaws.{value-small, value-next}
 use Rattle.points.proofs.value_of.Statement.{statement}
@@ -15,7 +16,7 @@ abbrev μ-loop : tie.MeasureT-loop
 μ-loop sent from b value₀ k₀ value k = b - k
 
 loop-holds : tie.Need-loop-holds Inv-loop μ-loop
-unfolding valueOf
+unfolding written
 loop-holds c = (omega arith, refl)
 
 add-bit : tie.Need-add-bit Inv-loop μ-loop
@@ -50,7 +51,7 @@ loop-again c =
 returns : tie.Need-returns Inv-loop μ-loop
 returns c =
     let done : c .before .loop .k ≡ c .before .before .args .b = omega arith in
-    c .before .loop .inv .1 ∙ ap (valueOf _ _) done
+    c .before .loop .inv .1 ∙ ap (valueOf (c .before .before .args .sent .now) (c .before .before .args .from)) done
 
 pub value-of-spec : {M : Type 1} → statement M
 value-of-spec =
