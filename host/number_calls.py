@@ -6,8 +6,9 @@ host/reference.py, and none comes from the program. crates/numbers/src/main.rt s
 """
 import os
 
-from reference import (MODES, SOFT, decode_readings, decode_soft, drawn, encode, ideal, lengths_of, mapped, octets_of,
-                       recorded, scrambled, sent_bits, soften, softened, text)
+from reference import (MODES, SOFT, List, carriers_of, commas, decode_readings, decode_soft, drawn, encode, ideal,
+                       length_of, lengths_of, listed, mapped, octets_of, pdus_of, recorded, refusal, scrambled, sent_bits,
+                       sent_of, soften, softened, text)
 
 HERE = os.path.dirname(os.path.abspath(__file__))
 VECTORS = os.path.join(HERE, "vectors", "encode.txt")
@@ -28,14 +29,23 @@ def signed(values, digits):
     return "".join(f"{v % 16 ** digits:0{digits}x}" for v in values) or "-"
 
 
-def encode_call(mode, counter, n, a, octets, room):
-    no, bits = encode(mode, counter, n, a, octets, room)
-    return f"encode {mode} {counter} {n} {a} {octets.hex() or '-'} {room}", f"{no} {text(lent(bits, room))}".rstrip()
+def written(train):
+    """A list: how many PDUs, modes, lengths."""
+    return f"{train.count} {commas(train.modes)} {commas(train.lengths)}"
 
 
-def ideal_call(mode, n, sent, room_i, room_q):
-    no, i, q = ideal(mode, n, sent, room_i, room_q)
-    line = f"ideal {mode} {n} {bytes(sent).hex() or '-'} {room_i} {room_q}"
+def encode_line(train, counter, a, octets, room):
+    return f"encode {written(train)} {counter} {a} {octets.hex() or '-'} {room}"
+
+
+def encode_call(train, counter, a, octets, room):
+    no, bits = encode(train, counter, a, octets, room)
+    return encode_line(train, counter, a, octets, room), f"{no} {text(lent(bits, room))}".rstrip()
+
+
+def ideal_call(train, sent, room_i, room_q):
+    no, i, q = ideal(train, sent, room_i, room_q)
+    line = f"ideal {written(train)} {bytes(sent).hex() or '-'} {room_i} {room_q}"
     return line, " ".join(map(str, [no, "i", *lent(i, room_i), "q", *lent(q, room_q)]))
 
 
@@ -44,34 +54,38 @@ def mapped_call(mode, group):
     return f"mapped {mode} {group}", f"{no} {i:08x} {q:08x}"
 
 
-def soften_call(mode, n, i, q, room):
-    no, soft = soften(mode, n, i, q, room)
-    return f"soften {mode} {n} {signed(i, 4)} {signed(q, 4)} {room}", " ".join(map(str, [no, *lent(soft, room, MARK_SOFT)]))
+def soften_call(train, i, q, room):
+    no, soft = soften(train, i, q, room)
+    line = f"soften {written(train)} {signed(i, 4)} {signed(q, 4)} {room}"
+    return line, " ".join(map(str, [no, *lent(soft, room, MARK_SOFT)]))
 
 
-def answered(n, room_octets, room_words, no, symbols, sent, cost, mark, octets):
+def answered(train, room_octets, room_words, no, symbols, sent, cost, mark, octets):
     """The line of a decode: at the end how many words are zero, and where those end that are as they were."""
     left = bytes(lent([*octets], room_octets))
-    return f"{no} {symbols} {sent} {cost} {mark} {left.hex()} {0 if no else n + 6} {room_words}"
+    zero = 0 if no else length_of(pdus_of(train)) + 6
+    return f"{no} {symbols} {sent} {cost} {mark} {left.hex()} {zero} {room_words}"
 
 
-def decode_soft_call(mode, counter, n, a, soft, room_octets, room_words):
-    line = f"decode_soft {mode} {counter} {n} {a} {signed(soft, 2)} {room_octets} {room_words}"
-    answer = decode_soft(mode, counter, n, a, soft, room_octets, room_words)
-    return line, answered(n, room_octets, room_words, *answer)
+def decode_soft_call(train, counter, a, soft, room_octets, room_words):
+    line = f"decode_soft {written(train)} {counter} {a} {signed(soft, 2)} {room_octets} {room_words}"
+    answer = decode_soft(train, counter, a, soft, room_octets, room_words)
+    return line, answered(train, room_octets, room_words, *answer)
 
 
-def decode_readings_call(mode, counter, n, a, i, q, room_octets, room_words):
-    line = f"decode_readings {mode} {counter} {n} {a} {signed(i, 4)} {signed(q, 4)} {room_octets} {room_words}"
-    answer = decode_readings(mode, counter, n, a, i, q, room_octets, room_words)
-    return line, answered(n, room_octets, room_words, *answer)
+def decode_readings_call(train, counter, a, i, q, room_octets, room_words):
+    line = f"decode_readings {written(train)} {counter} {a} {signed(i, 4)} {signed(q, 4)} {room_octets} {room_words}"
+    answer = decode_readings(train, counter, a, i, q, room_octets, room_words)
+    return line, answered(train, room_octets, room_words, *answer)
 
 
 def recorded_calls():
     """The customer's trains. Their sent bits are copied from the file and not worked out here."""
-    for mode, counter, n, a, octets, bits in recorded(VECTORS):
-        yield f"encode {mode} {counter} {n} {a} {octets.hex()} {len(bits)}", f"0 {bits}"
+    for *call, bits in recorded(VECTORS):
+        yield encode_line(*call, len(bits)), f"0 {bits}"
 
+
+# Trains of one PDU.
 
 def train_calls():
     """Each mode: its shortest train; P1 at the start, the end and in the middle of a longer one; the longest train, in
@@ -83,15 +97,15 @@ def train_calls():
             trains.append((3456, 2000 + mode))
         for k, (n, a) in enumerate(trains):
             room = n // MODES[mode].info * MODES[mode].sent + 5 * k
-            yield encode_call(mode, (5 * mode + 3 * k) % 16, n, a, drawn(f"train {mode} {k}", n // 8), room)
+            yield encode_call(listed((mode, n)), (5 * mode + 3 * k) % 16, a, drawn(f"train {mode} {k}", n // 8), room)
     for octet in (0, 255):
-        yield encode_call(6, 15, 144, 72, bytes([octet] * 18), 192)
+        yield encode_call(listed((6, 144)), 15, 72, bytes([octet] * 18), 192)
 
 
 def refused_calls():
     """Encode's refusals 1 to 8 and, at the end, calls that pass. The first of each kind has all later reasons too."""
     good = bytes(range(9))
-    for call in [
+    for mode, counter, n, *others in [
         (0, 16, 64, MOST, b"", 0), (8, 16, 64, MOST, b"", 0), (MOST, MOST, MOST, MOST, b"", 9),
         (1, 16, 64, MOST, b"", 0), (7, MOST, 0, 0, good, 200),
         (1, 15, 0, MOST, b"", 0), (1, 0, 71, 0, good, 200), (1, 0, 3457, MOST, b"", 0),
@@ -104,7 +118,7 @@ def refused_calls():
         (1, 0, 72, 0, good, 0), (1, 0, 72, 0, good, 143), (7, 0, 216, 144, bytes(27), 287),
         (1, 0, 72, 0, good, 144), (1, 15, 72, 0, good, 145), (2, 0, 72, 0, good, 200),
     ]:
-        yield encode_call(*call)
+        yield encode_call(listed((mode, n)), counter, *others)
 
 
 def stated_calls():
@@ -114,18 +128,19 @@ def stated_calls():
         (7, 432, 0, 0, 576), (1, 3456, 0, 0, None), (1, 3464, 0, 3, 0), (1, 72, 1, 6, 0),
     ]:
         room = 7000 if n > 3000 else 600
-        found, bits = encode(mode, 0, n, a, bytes(n // 8), room)
+        call = listed((mode, n)), 0, a, bytes(n // 8), room
+        found, bits = encode(*call)
         assert found == no and n_sent in (None, len(bits))
-        yield encode_call(mode, 0, n, a, bytes(n // 8), room)
+        yield encode_call(*call)
 
 
 def ideal_calls():
     """The shortest train of each mode and a longest one; then refusals 1, 3, 4, 5, 7, 8, 9, as above."""
     for mode, n in [*((mode, lengths_of(mode)[0]) for mode in MODES), (7, 3456)]:
-        carriers = n // MODES[mode].info * 48
-        yield ideal_call(mode, n, sent_bits(mode, mode, 0, drawn(f"ideal {mode}", n // 8)), carriers, carriers + mode)
+        carriers, sent = n // MODES[mode].info * 48, sent_bits([(mode, n)], mode, 0, drawn(f"ideal {mode}", n // 8))
+        yield ideal_call(listed((mode, n)), sent, carriers, carriers + mode)
     one = [k // 3 % 2 for k in range(96)]
-    for call in [
+    for mode, n, *others in [
         (0, 64, [2], 0, 0), (8, 64, [2], 0, 0), (MOST, MOST, [], 5, 5),
         (4, 0, [2], 0, 0), (4, 64, [2], 0, 0), (4, 3464, [2], 0, 0), (4, MOST, one, 48, 48),
         (4, 73, [2], 0, 0), (4, 108, one, 48, 48), (4, 80, [2], 0, 0), (3, 72, one, 48, 48),
@@ -134,7 +149,7 @@ def ideal_calls():
         (4, 72, [2] + one[1:], 48, 48), (4, 72, one[:95] + [2], 50, 60), (4, 72, one[:40] + [255] + one[41:], 48, 48),
         (4, 72, one, 48, 48), (2, 72, one, 100, 96),
     ]:
-        yield ideal_call(*call)
+        yield ideal_call(listed((mode, n)), *others)
 
 
 def mapped_calls():
@@ -157,9 +172,14 @@ def noisy(label, values, most, limit):
     return [max(-limit, min(limit, v + e)) for v, e in zip(values, noise(label, len(values), most))]
 
 
-def ideal_readings(mode, counter, n, a, octets):
-    carriers = n // MODES[mode].info * 48
-    return ideal(mode, n, sent_bits(mode, counter, a, octets), carriers, carriers)[1:]
+def ideal_readings(train, counter, a, octets):
+    pdus = pdus_of(train)
+    room = len(carriers_of(pdus))
+    return ideal(train, sent_bits(pdus, counter, a, octets), room, room)[1:]
+
+
+def noisy_readings(label, train, counter, a, octets, most):
+    return [noisy(f"{axis} {label}", r, most, 32767) for axis, r in zip("iq", ideal_readings(train, counter, a, octets))]
 
 
 def soften_calls():
@@ -172,12 +192,12 @@ def soften_calls():
         i = stated + noise(f"soft i {mode}", carriers - len(stated), 2600)
         q = stated[::-1] + noise(f"soft q {mode}", carriers - len(stated), 2600)
         room = n // MODES[mode].info * MODES[mode].sent + mode % 3
-        _, soft = soften(mode, n, i, q, room)
+        _, soft = soften(listed((mode, n)), i, q, room)
         for w, j, r, byte in SOFT:
             assert w != width or soft[MODES[mode].carrier * stated.index(r) + j] == byte
-        yield soften_call(mode, n, i, q, room)
+        yield soften_call(listed((mode, n)), i, q, room)
     one = [256, -32768, 32767] * 16
-    for call in [
+    for mode, n, *others in [
         (0, 64, [1], [], 0), (8, 64, [1], [], 0), (MOST, MOST, [], [], 3),
         (4, 64, [1], [], 0), (4, 0, one, one, 96), (4, 3464, [1], [], 0), (4, MOST, one, one, 96),
         (4, 73, [1], [], 0), (2, 108, one, one, 96), (4, 80, [1], [], 0), (3, 72, one, one, 96),
@@ -185,7 +205,7 @@ def soften_calls():
         (4, 72, one, one, 0), (4, 72, one, one, 95),
         (4, 72, one, one, 96), (4, 72, one, one, 99),
     ]:
-        yield soften_call(*call)
+        yield soften_call(listed((mode, n)), *others)
 
 
 def decode_calls():
@@ -193,29 +213,29 @@ def decode_calls():
     one of the longest trains. Most are lent more room than they need."""
     for mode in MODES:
         n, counter = lengths_of(mode)[0], (3 * mode + 5) % 16
-        a = n - 72
-        sent, octets = n // MODES[mode].info * MODES[mode].sent, drawn(f"decode {mode}", n // 8)
-        assert decode_soft(mode, counter, n, a, [0] * sent, n // 8, n + 6)[3:] == (0, "D", octets_of(scrambled([0] * n, counter)))
-        yield decode_soft_call(mode, counter, n, a, [0] * sent, n // 8, n + 6 + mode)
-        i, q = ideal_readings(mode, counter, n, a, octets)
-        assert decode_readings(mode, counter, n, a, i, q, n // 8, n + 6)[3:] == (0, "C", octets)
-        yield decode_readings_call(mode, counter, n, a, i, q, n // 8 + mode % 4, n + 6)
-        soft = softened(MODES[mode].carrier, i, q)
+        train, a, octets = listed((mode, n)), n - 72, drawn(f"decode {mode}", n // 8)
+        zeros = [0] * sent_of(pdus_of(train))
+        assert decode_soft(train, counter, a, zeros, n // 8, n + 6)[3:] == (0, "D", octets_of(scrambled([0] * n, counter)))
+        yield decode_soft_call(train, counter, a, zeros, n // 8, n + 6 + mode)
+        i, q = ideal_readings(train, counter, a, octets)
+        assert decode_readings(train, counter, a, i, q, n // 8, n + 6)[3:] == (0, "C", octets)
+        yield decode_readings_call(train, counter, a, i, q, n // 8 + mode % 4, n + 6)
+        soft = softened(pdus_of(train), i, q)
         for k, most in enumerate((5, 20)):
-            yield decode_soft_call(mode, counter, n, a, noisy(f"soft {mode} {k}", soft, most, 80), n // 8 + k, n + 6 + 3 * k)
+            yield decode_soft_call(train, counter, a, noisy(f"soft {mode} {k}", soft, most, 80), n // 8 + k, n + 6 + 3 * k)
         for k, most in enumerate((300, 700)):
-            on_i, on_q = (noisy(f"{axis} {mode} {k}", r, most, 32767) for axis, r in (("i", i), ("q", q)))
-            yield decode_readings_call(mode, counter, n, a, on_i, on_q, n // 8, n + 6)
-    octets = drawn("longest", 432)
-    i, q = (noisy(f"longest {k}", r, 330, 32767) for k, r in enumerate(ideal_readings(7, 15, 3456, 1234, octets)))
-    yield decode_readings_call(7, 15, 3456, 1234, i, q, 434, 3470)
+            heard = noisy_readings(f"{mode} {k}", train, counter, a, octets, most)
+            yield decode_readings_call(train, counter, a, *heard, n // 8, n + 6)
+    longest = listed((7, 3456)), 15, 1234
+    i, q = (noisy(f"longest {k}", r, 330, 32767) for k, r in enumerate(ideal_readings(*longest, drawn("longest", 432))))
+    yield decode_readings_call(*longest, i, q, 434, 3470)
 
 
 def refused_decodes():
     """The two decodes' refusals 1 to 8, and 9 of soft bytes. The first of each kind has all later reasons too; at the end
     calls that pass, among them the lengths that document 01 names."""
     bad, good = [81], noise("good", 96, 80)
-    for call in [
+    for mode, counter, n, *others in [
         (0, 16, 64, MOST, bad, 0, 0), (8, 16, 64, MOST, bad, 9, 9), (MOST, MOST, MOST, MOST, [], 2, 0),
         (4, 16, 64, MOST, bad, 0, 0), (4, MOST, 72, 0, good, 9, 78),
         (4, 15, 64, MOST, bad, 0, 0), (4, 0, 3464, MOST, bad, 0, 0), (4, 0, MOST, 0, good, 9, 78),
@@ -228,9 +248,9 @@ def refused_decodes():
         (4, 0, 72, 0, good[:40] + [127] + good[41:], 9, 78),
         (4, 0, 72, 0, good, 9, 78), (4, 15, 72, 0, [80, -80] * 48, 12, 90),
     ]:
-        yield decode_soft_call(*call)
+        yield decode_soft_call(listed((mode, n)), counter, *others)
     one = noise("one", 48, 1000)
-    for call in [
+    for mode, counter, n, *others in [
         (0, 16, 64, MOST, [1], [], 0, 0), (8, 16, 64, MOST, [1], [], 0, 0), (MOST, MOST, MOST, MOST, [], [], 2, 2),
         (4, 16, 64, MOST, [1], [], 0, 0), (4, 15, 64, MOST, [1], [], 0, 0), (4, 0, 3464, 0, one, one, 9, 78),
         (4, 0, 73, MOST, [1], [], 0, 0), (4, 0, 80, MOST, [1], [], 0, 0), (4, 0, 72, MOST, [1], [], 0, 0), (4, 0, 72, 1, one, one, 9, 78),
@@ -238,17 +258,112 @@ def refused_decodes():
         (4, 0, 72, 0, one, one, 8, 78), (4, 0, 72, 0, one, one, 9, 77), (4, 0, 72, 0, one, one, 0, 0),
         (4, 0, 72, 0, one, one, 9, 78),
     ]:
-        yield decode_readings_call(*call)
+        yield decode_readings_call(listed((mode, n)), counter, *others)
     for mode, n, n_sent in (1, 72, 144), (4, 72, 96), (7, 432, 576):
-        answer = decode_soft(mode, 4, n, 0, noise(f"size {n}", n_sent, 9), n // 8, n + 6)
+        call = listed((mode, n)), 4, 0, noise(f"size {n}", n_sent, 9), n // 8, n + 6
+        answer = decode_soft(*call)
         assert answer[0] == 0 and answer[2] == n_sent
-        yield decode_soft_call(mode, 4, n, 0, noise(f"size {n}", n_sent, 9), n // 8, n + 6)
+        yield decode_soft_call(*call)
+
+
+# Trains of several PDUs.
+
+# What stands past the count would be refused, if it were read.
+CONTROL = List(2, [1, 6, 0, 8, MOST], [72, 144, 0, 73, MOST])
+SEVEN = listed((7, 216), (6, 144), (5, 216), (4, 72), (3, 96), (2, 72), (1, 72))
+SAME = listed((4, 72), (4, 144), (4, 72))
+SIXTEEN = listed(*[(1, 72), (4, 72), (2, 72), (3, 96)] * 4)
+WIDEST = listed(*[(7, 216)] * 16)
+
+
+def mixed_trains():
+    """List, counter and a: P1 across a border, at one, up to one, and at both ends of the train."""
+    return [
+        (CONTROL, 4, 36), (CONTROL, 9, 72), (SEVEN, 3, 216 + 144 - 1), (SEVEN, 12, 816), (SAME, 6, 0), (SIXTEEN, 7, 72),
+        (WIDEST, 11, 3384),
+    ]
+
+
+def is_small(train):
+    return length_of(pdus_of(train)) < 1000
+
+
+# Descriptions and what the documents refuse them with, most with all later reasons; what is lent with them never fits. The
+# first ones go to every call, the others to encode alone.
+LADDER = [
+    (11, List(0, [1], [72]), 16, MOST), (1, listed((1, 64), (8, 73)), 16, MOST), (5, listed((1, 72), (3, 72), (1, 64)), 15, MOST),
+    (3, listed((1, 3456), (1, 72)), 15, MOST), (6, listed((1, 72), (6, 144)), 15, 145),
+]
+FURTHER = [
+    (11, List(17, SIXTEEN.modes, SIXTEEN.lengths), 0, 0), (11, List(MOST, SIXTEEN.modes, SIXTEEN.lengths), 0, 0),
+    (1, List(3, [1, 2], [72, 72]), 16, MOST), (1, List(16, SIXTEEN.modes[:15] + [0], SIXTEEN.lengths), 0, 0),
+    (2, listed((1, 64), (1, 73)), 16, MOST), (3, listed((1, 64), (1, 73)), 15, MOST), (4, listed((1, 73), (1, 64)), 15, MOST),
+    (5, listed((3, 72), (2, 108)), 15, MOST), (3, listed((1, 72), (1, 71), (1, 73)), 15, MOST),
+    (4, listed((1, 72), (2, 108), (3, 72)), 15, MOST), (4, listed((1, 3456), (1, 73)), 15, MOST),
+    (3, listed((1, 3384), (1, 96)), 0, 0), (6, WIDEST, 0, 3385), (0, WIDEST, 15, 3384),
+]
+
+
+def list_ladder():
+    """Every call's refusals of a list. A call without counter and a skips 2 and 6."""
+    for no, train, counter, a in LADDER + FURTHER:
+        assert refusal(train, counter, a) == no
+        yield encode_call(train, counter, a, b"", 3)
+    for _, train, counter, a in LADDER:
+        yield ideal_call(train, [2], 2, 1)
+        yield soften_call(train, [1], [], 2)
+        yield decode_soft_call(train, counter, a, [81], 2, 3)
+        yield decode_readings_call(train, counter, a, [1], [], 2, 3)
+
+
+def mixed_sendings():
+    """Sent bits of all of them; ideal readings of some."""
+    for k, (train, counter, a) in enumerate(mixed_trains()):
+        pdus, octets = pdus_of(train), drawn(f"mixed {k}", length_of(pdus_of(train)) // 8)
+        yield encode_call(train, counter, a, octets, sent_of(pdus) + k % 3)
+        if k % 2 == 0 and is_small(train):
+            room = len(carriers_of(pdus))
+            yield ideal_call(train, sent_bits(pdus, counter, a, octets), room, room + 2)
+
+
+def mixed_decodes():
+    """Soft bytes of any readings; ideal and noisy readings, and noisy soft bytes, decoded."""
+    for k, (train, counter, a) in enumerate(mixed_trains()):
+        if not is_small(train):
+            continue
+        pdus, n = pdus_of(train), length_of(pdus_of(train))
+        octets, carriers = drawn(f"heard {k}", n // 8), len(carriers_of(pdus))
+        i, q = ideal_readings(train, counter, a, octets)
+        assert decode_readings(train, counter, a, i, q, n // 8, n + 6)[3:] == (0, "C", octets)
+        if k % 2 == 0:
+            yield decode_readings_call(train, counter, a, i, q, n // 8 + 1, n + 7)
+            yield soften_call(train, noise(f"any i {k}", carriers, 2600), noise(f"any q {k}", carriers, 2600), sent_of(pdus) + 1)
+        yield decode_readings_call(train, counter, a, *noisy_readings(f"heard {k}", train, counter, a, octets, 400), n // 8, n + 6)
+        if k % 2 == 1:
+            yield decode_soft_call(train, counter, a, noisy(f"heard {k}", softened(pdus, i, q), 20, 80), n // 8, n + 6)
+
+
+def refused_lists():
+    """Refusals 7, 8 and 9 of a list: what it needs are sums. Each call is one element away from a good one."""
+    octets, (sent, carriers) = bytes(range(27)), (144 + 192, 48 * 4)
+    for given, room in (octets[1:], sent), (octets + b"0", sent), (octets, sent - 1):
+        yield encode_call(CONTROL, 1, 100, given, room)
+    bits = sent_bits(pdus_of(CONTROL), 1, 100, octets)
+    for given, room in (bits[1:], carriers), (bits, carriers - 1), (bits[:-1] + [2], carriers):
+        yield ideal_call(CONTROL, given, carriers, room)
+    soft = [20 if bit else -20 for bit in bits]
+    for given, room, words in (soft[1:], 27, 222), (soft, 26, 222), (soft, 27, 221), (soft[:-1] + [81], 27, 222):
+        yield decode_soft_call(CONTROL, 1, 100, given, room, words)
+    i, q = ideal_readings(CONTROL, 1, 100, octets)
+    for on_i, on_q, room in (i[1:], q, sent), (i, q + [0], sent), (i, q, sent - 1):
+        yield soften_call(CONTROL, on_i, on_q, room)
 
 
 def write():
     calls = [
         *recorded_calls(), *train_calls(), *refused_calls(), *stated_calls(), *ideal_calls(), *mapped_calls(),
         *soften_calls(), *decode_calls(), *refused_decodes(),
+        *list_ladder(), *mixed_sendings(), *mixed_decodes(), *refused_lists(),
     ]
     for name, side in ("stdin", 0), ("stdout", 1):
         with open(os.path.join(NUMBERS, name), "w", encoding="ascii") as file:

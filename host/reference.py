@@ -2,16 +2,19 @@
 """The whole modem in plain Python: slow, obvious, and written from the documents alone.
 
 It follows clauses 5.2 to 5.5 of ETSI TS 101 475 and, where that leaves something open, the project's own rules
-(document 01). It shares no code, table or definition with the crates, so that an agreement of the two means something.
+(document 01, and the request for lists of PDUs). It shares no code, table or definition with the crates, so that an
+agreement of the two means something.
 
-    python3 host/reference.py check FILE     encode the data trains of one mode in FILE and count those that agree
+    python3 host/reference.py check FILE     encode the data trains in FILE and count those that agree
     python3 host/reference.py decoded FILE   decode the soft bytes of each line of FILE and count those that agree
-    python3 host/reference.py trains COUNT   print COUNT trains in FILE's form, over all modes, lengths and places of P1
+    python3 host/reference.py trains COUNT   print COUNT trains in FILE's form, over all modes, lengths, lists of PDUs and
+                                             places of P1
     python3 host/reference.py numbers        write crates/numbers/stdin and crates/numbers/stdout (host/number_calls.py)
 
-A line of FILE: kind, modes, counter, lengths, a, octets in hex, sent bits. host/vectors/encode.txt is such a file: the
-lines of one mode of the customer's vectors, as they came. For `decoded`: kind, mode, counter, N, a, the soft bytes, `=`,
-refusal, symbols, n, cost, mark, octets in hex, as in the customer's decode.txt.
+A line of FILE: kind, modes, counter, lengths, a, octets in hex, sent bits; modes and lengths have commas between them.
+host/vectors/encode.txt is such a file: the data trains of the customer's vectors, as they came. For `decoded`: kind,
+modes, counter, lengths, a, the soft bytes, `=`, refusal, symbols, n, cost, mark, octets in hex, as in the customer's
+decode.txt.
 """
 import hashlib
 import struct
@@ -30,6 +33,9 @@ MODES = {
     6: Mode(4, "3/4", 192, 144),
     7: Mode(6, "3/4", 288, 216),
 }
+# The PDUs of a train as the calls take them: how many, and modes and lengths, of which those past the count are not read.
+# Below, pdus are the mode and the length of each, as good ones have them.
+List = namedtuple("List", "count modes lengths")
 # Table 2, the rows X and Y. Table 3, the rows b0 and b1 of each rate.
 P1_X, P1_Y = "1111110111111", "1111111111110"
 P2 = {"1/2": ("1", "1"), "3/4": ("110", "101"), "9/16": ("111111110", "111101111")}
@@ -41,6 +47,34 @@ LEVELS = {
 }
 # Table 4: K is 1 / sqrt(D), by the bits per carrier.
 D = {1: 1, 2: 2, 4: 10, 6: 42}
+
+
+# Lists of PDUs, and their counts.
+
+def listed(*pdus):
+    return List(len(pdus), [mode for mode, _ in pdus], [n for _, n in pdus])
+
+
+def pdus_of(train):
+    """What a list says. Numbers that are not written are 0."""
+    return [*zip(train.modes, train.lengths), *[(0, 0)] * 16][:train.count]
+
+
+def length_of(pdus):
+    return sum(n for _, n in pdus)
+
+
+def symbols_of(pdus):
+    return sum(n // MODES[mode].info for mode, n in pdus)
+
+
+def sent_of(pdus):
+    return sum(n // MODES[mode].info * MODES[mode].sent for mode, n in pdus)
+
+
+def carriers_of(pdus):
+    """The bits of each carrier."""
+    return [MODES[mode].carrier for mode, n in pdus for _ in range(48 * (n // MODES[mode].info))]
 
 
 # The way of a train, stage by stage. Bits are lists of 0 and 1.
@@ -120,9 +154,18 @@ def coded_train(counter, a, octets):
     return p1(x, y, a)
 
 
-def sent_bits(mode, counter, a, octets):
-    """The sent bits of a train of one mode, after the interleaver."""
-    return interleaved(p2(coded_train(counter, a, octets), MODES[mode].rate), MODES[mode])
+def shared(pdus, bits):
+    """P1's output in the order after the interleaver: of each PDU the next 2 N, with P2 begun anew."""
+    out, at = [], 0
+    for mode, n in pdus:
+        out += interleaved(p2(bits[at:at + 2 * n], MODES[mode].rate), MODES[mode])
+        at += 2 * n
+    assert at == len(bits)
+    return out
+
+
+def sent_bits(pdus, counter, a, octets):
+    return shared(pdus, coded_train(counter, a, octets))
 
 
 def levels(group):
@@ -173,17 +216,17 @@ def soft_byte(width, j, reading):
     return (abs(s) + 32) // 64 * (-1 if s < 0 else 1)
 
 
-def softened(carrier, i, q):
+def softened(pdus, i, q):
     """The soft bytes of all carriers, I's before Q's. BPSK reads no Q."""
-    on_i, on_q = max(1, carrier // 2), carrier // 2
-    return [byte for r, s in zip(i, q)
+    return [byte for carrier, r, s in zip(carriers_of(pdus), i, q)
+            for on_i, on_q in [(max(1, carrier // 2), carrier // 2)]
             for byte in [soft_byte(on_i, j, r) for j in range(on_i)] + [soft_byte(on_q, j, s) for j in range(on_q)]]
 
 
-def origins(mode, n, a):
+def origins(pdus, a):
     """Which coded bit each sent bit is, by sending the coded bits' own numbers: X of input t is 2 t, Y is 2 t + 1."""
-    numbers = p1([2 * t for t in range(n + 6)], [2 * t + 1 for t in range(n + 6)], a)
-    return interleaved(p2(numbers, MODES[mode].rate), MODES[mode])
+    inputs = range(length_of(pdus) + 6)
+    return shared(pdus, p1([2 * t for t in inputs], [2 * t + 1 for t in inputs], a))
 
 
 # What an input and the state before it, its last six inputs with the newest the highest, give: X, Y and the state after.
@@ -237,10 +280,10 @@ def bit_cost(soft, bit):
     return max(0, -soft if bit else soft)
 
 
-def decoded(mode, counter, n, a, soft):
+def decoded(pdus, counter, a, soft):
     """The cost, the mark and the octets of the train that is returned. It is confirmed where every other train v has
     2 cost(v) - (bits in which v differs from it) above twice its own cost."""
-    at = origins(mode, n, a)
+    n, at = length_of(pdus), origins(pdus, a)
     cost, train = best_train(n, pairs(n, at, lambda q, bit: bit_cost(soft[q], bit)))
     x, y = coded(train + [0] * 6)
     own = in_turn(x, y)
@@ -249,98 +292,113 @@ def decoded(mode, counter, n, a, soft):
     return cost, "C" if rival > 2 * cost else "D", octets_of(scrambled(train, counter))
 
 
-# The calls, refusals in the table's order. A call without a parameter skips its test.
+# The calls, refusals in the order of the documents. A call without a parameter skips its test.
 
-def refusal(mode, n=None, counter=None, a=None):
-    if mode not in MODES:
+def length_refusal(mode, n):
+    """What a PDU's own length is refused with."""
+    if not 72 <= n <= 3456:
+        return 3
+    if n % 8:
+        return 4
+    return 5 if n % MODES[mode].info else 0
+
+
+def refusal(train, counter=None, a=None):
+    if not 1 <= train.count <= 16:
+        return 11
+    pdus = pdus_of(train)
+    if any(mode not in MODES for mode, _ in pdus):
         return 1
     if counter is not None and counter > 15:
         return 2
-    if n is not None and not 72 <= n <= 3456:
+    for no in (length_refusal(mode, n) for mode, n in pdus):
+        if no:
+            return no
+    if length_of(pdus) > 3456:
         return 3
-    if n is not None and n % 8:
-        return 4
-    if n is not None and n % MODES[mode].info:
-        return 5
-    if a is not None and a > n - 72:
-        return 6
-    return 0
+    return 6 if a is not None and a > length_of(pdus) - 72 else 0
 
 
-def encode(mode, counter, n, a, octets, room):
+def encode(train, counter, a, octets, room):
     """The refusal and what is written at the start of the lent bytes, of which there are `room`."""
-    no = refusal(mode, n, counter, a)
-    if no == 0 and len(octets) != n // 8:
+    no, pdus = refusal(train, counter, a), pdus_of(train)
+    if no == 0 and len(octets) != length_of(pdus) // 8:
         no = 7
-    if no == 0 and room < n // MODES[mode].info * MODES[mode].sent:
+    if no == 0 and room < sent_of(pdus):
         no = 8
-    return (no, []) if no else (0, sent_bits(mode, counter, a, octets))
+    return (no, []) if no else (0, sent_bits(pdus, counter, a, octets))
 
 
-def ideal(mode, n, sent, room_i, room_q):
+def ideal(train, sent, room_i, room_q):
     """The refusal, the readings of I and those of Q: 256 times each level."""
-    no = refusal(mode, n)
-    symbols = 0 if no else n // MODES[mode].info
-    if no == 0 and len(sent) != symbols * MODES[mode].sent:
+    no, pdus = refusal(train), pdus_of(train)
+    if no == 0 and len(sent) != sent_of(pdus):
         no = 7
-    if no == 0 and min(room_i, room_q) < 48 * symbols:
+    if no == 0 and min(room_i, room_q) < 48 * symbols_of(pdus):
         no = 8
     if no == 0 and any(bit > 1 for bit in sent):
         no = 9
     if no:
         return no, [], []
-    size = MODES[mode].carrier
-    found = [levels(sent[at:at + size]) for at in range(0, len(sent), size)]
+    bits = iter(sent)
+    found = [levels([next(bits) for _ in range(carrier)]) for carrier in carriers_of(pdus)]
     return 0, [256 * i for i, _ in found], [256 * q for _, q in found]
 
 
 def mapped(mode, group):
     """The refusal and the bits of the point's two parts, +0 where it is refused."""
-    no = refusal(mode)
-    if no == 0 and group >= 2 ** MODES[mode].carrier:
-        no = 9
-    return (no, [0, 0]) if no else (0, point(MODES[mode].carrier, group))
+    if mode not in MODES:
+        return 1, [0, 0]
+    if group >= 2 ** MODES[mode].carrier:
+        return 9, [0, 0]
+    return 0, point(MODES[mode].carrier, group)
 
 
-def soften(mode, n, i, q, room):
-    """The refusal and the soft bytes at the start of the lent ones."""
-    no = refusal(mode, n)
-    symbols = 0 if no else n // MODES[mode].info
-    if no == 0 and (len(i) != 48 * symbols or len(q) != 48 * symbols):
+def readings_refusal(train, i, q, counter=None, a=None):
+    """Refusals up to 7 of a call that reads I and Q."""
+    no = refusal(train, counter, a)
+    if no == 0 and {len(i), len(q)} != {48 * symbols_of(pdus_of(train))}:
         no = 7
-    if no == 0 and room < symbols * MODES[mode].sent:
+    return no
+
+
+def soften(train, i, q, room):
+    """The refusal and the soft bytes at the start of the lent ones."""
+    no, pdus = readings_refusal(train, i, q), pdus_of(train)
+    if no == 0 and room < sent_of(pdus):
         no = 8
-    return (no, []) if no else (0, softened(MODES[mode].carrier, i, q))
+    return (no, []) if no else (0, softened(pdus, i, q))
 
 
 NOTHING = (0, 0, 0, "-", b"")
 
 
-def decode_soft(mode, counter, n, a, soft, room_octets, room_words):
+def is_short(pdus, room_octets, room_words):
+    return room_octets < length_of(pdus) // 8 or room_words < length_of(pdus) + 6
+
+
+def answer(pdus, counter, a, soft):
+    return 0, symbols_of(pdus), len(soft), *decoded(pdus, counter, a, soft)
+
+
+def decode_soft(train, counter, a, soft, room_octets, room_words):
     """The refusal, symbols, n, the rounded cost, the mark (C confirmed, D done, - refused) and the octets."""
-    no = refusal(mode, n, counter, a)
-    symbols = 0 if no else n // MODES[mode].info
-    if no == 0 and len(soft) != symbols * MODES[mode].sent:
+    no, pdus = refusal(train, counter, a), pdus_of(train)
+    if no == 0 and len(soft) != sent_of(pdus):
         no = 7
-    if no == 0 and (room_octets < n // 8 or room_words < n + 6):
+    if no == 0 and is_short(pdus, room_octets, room_words):
         no = 8
     if no == 0 and any(not -80 <= byte <= 80 for byte in soft):
         no = 9
-    return (no, *NOTHING) if no else (0, symbols, len(soft), *decoded(mode, counter, n, a, soft))
+    return (no, *NOTHING) if no else answer(pdus, counter, a, soft)
 
 
-def decode_readings(mode, counter, n, a, i, q, room_octets, room_words):
+def decode_readings(train, counter, a, i, q, room_octets, room_words):
     """The same of the readings' soft bytes."""
-    no = refusal(mode, n, counter, a)
-    symbols = 0 if no else n // MODES[mode].info
-    if no == 0 and (len(i) != 48 * symbols or len(q) != 48 * symbols):
-        no = 7
-    if no == 0 and (room_octets < n // 8 or room_words < n + 6):
+    no, pdus = readings_refusal(train, i, q, counter, a), pdus_of(train)
+    if no == 0 and is_short(pdus, room_octets, room_words):
         no = 8
-    if no:
-        return (no, *NOTHING)
-    soft = softened(MODES[mode].carrier, i, q)
-    return 0, symbols, len(soft), *decoded(mode, counter, n, a, soft)
+    return (no, *NOTHING) if no else answer(pdus, counter, a, softened(pdus, i, q))
 
 
 # Document 01, "Numbers to hold against": bits on the axis, bit, reading, soft byte.
@@ -366,21 +424,30 @@ def known():
 
 # Recorded and made-up trains.
 
+def numbers_in(word):
+    return [*map(int, word.split(","))]
+
+
+def train_of(modes, counter, lengths, a):
+    """A description as a line writes it: list, counter, a."""
+    return listed(*zip(numbers_in(modes), numbers_in(lengths))), int(counter), int(a)
+
+
 def recorded(path):
-    """The data trains of one mode in a file: mode, counter, n, a, octets, sent bits as text."""
+    """The data trains in a file: list, counter, a, octets, sent bits as text."""
     for line in open(path, encoding="ascii"):
-        kind, modes, counter, lengths, a, octets, bits = line.split()
-        if kind == "data" and "," not in modes:
-            yield int(modes), int(counter), int(lengths), int(a), bytes.fromhex(octets), bits
+        kind, *described, octets, bits = line.split()
+        if kind == "data":
+            yield *train_of(*described), bytes.fromhex(octets), bits
 
 
 def recorded_decodes(path):
-    """The decodes of soft bytes in a file: the call's numbers, soft bytes, and what it answers."""
+    """The decodes of soft bytes in a file: list, counter, a, soft bytes, and what the call answers."""
     for line in open(path, encoding="ascii"):
-        call, _, answer = line.partition(" = ")
-        kind, *numbers = call.split()
-        *counts, mark, octets = answer.split()
-        yield kind, *map(int, numbers[:4]), [*map(int, numbers[4:])], (*map(int, counts), mark, bytes.fromhex(octets))
+        call, _, told = line.partition(" = ")
+        _, *words = call.split()
+        *counts, mark, octets = told.split()
+        yield *train_of(*words[:4]), [*map(int, words[4:])], (*map(int, counts), mark, bytes.fromhex(octets))
 
 
 def drawn(label, count):
@@ -396,31 +463,48 @@ def lengths_of(mode):
 
 
 def made(k):
-    """The k-th of a fixed sequence of trains, with its sent bits."""
-    pick = lambda what, among: among[int.from_bytes(drawn(f"{what} {k}", 8), "big") % len(among)]
-    mode = k % 7 + 1
-    n = pick("length", lengths_of(mode))
-    a = pick("place", [0, n - 72, pick("within", range(n - 71))])
-    counter, octets = pick("counter", range(16)), drawn(f"octets {k}", n // 8)
-    return mode, counter, n, a, octets, text(sent_bits(mode, counter, a, octets))
+    """The k-th of a fixed sequence of trains, with its sent bits: one PDU and several in turn."""
+    def pick(what, among):
+        return among[int.from_bytes(drawn(f"{what} {k}", 8), "big") % len(among)]
+
+    def pdu(j, most):
+        mode = pick(f"mode {j}", range(1, 8))
+        return mode, pick(f"length {j}", [n for n in lengths_of(mode)[:6] if n <= most])
+
+    if k % 2:
+        pdus = []
+        for others in range(pick("count", range(1, 16)), -1, -1):
+            pdus.append(pdu(others, 3456 - length_of(pdus) - 216 * others))
+    else:
+        mode = k // 2 % 7 + 1
+        pdus = [(mode, pick("length", lengths_of(mode)))]
+    last = length_of(pdus) - 72
+    a = pick("place", [0, last, pick("within", range(last + 1)), min(last, pdus[0][1] - 36)])
+    counter, octets = pick("counter", range(16)), drawn(f"octets {k}", length_of(pdus) // 8)
+    return listed(*pdus), counter, a, octets, text(sent_bits(pdus, counter, a, octets))
+
+
+def commas(values):
+    return ",".join(map(str, values))
 
 
 def main(words):
     known()
     if words[:1] == ["check"] and len(words) == 2:
         trains = list(recorded(words[1]))
-        wrong = [t for t in trains if text(sent_bits(t[0], t[1], t[3], t[4])) != t[5]]
-        print(f"{len(trains) - len(wrong)} of {len(trains)} trains agree")
-        sys.exit(1 if wrong or not trains else 0)
+        same = sum(text(sent_bits(pdus_of(train), *others)) == bits for train, *others, bits in trains)
+        print(f"{same} of {len(trains)} trains agree")
+        sys.exit(0 if trains and same == len(trains) else 1)
     elif words[:1] == ["decoded"] and len(words) == 2:
         calls = list(recorded_decodes(words[1]))
-        same = sum(decode_soft(*call, n // 8, n + 6) == answer for _, *call, answer in calls for n in [call[2]])
+        same = sum(decode_soft(*call, n // 8, n + 6) == told
+                   for *call, told in calls for n in [length_of(pdus_of(call[0]))])
         print(f"{same} of {len(calls)} decodes agree")
         sys.exit(0 if calls and same == len(calls) else 1)
     elif words[:1] == ["trains"] and len(words) == 2:
         for k in range(int(words[1])):
-            mode, counter, n, a, octets, bits = made(k)
-            print("data", mode, counter, n, a, octets.hex(), bits)
+            train, counter, a, octets, bits = made(k)
+            print("data", commas(train.modes), counter, commas(train.lengths), a, octets.hex(), bits)
     elif words == ["numbers"]:
         from number_calls import write
         write()

@@ -4,8 +4,8 @@
 #
 #     host/run.sh [COUNT]
 #
-# At least COUNT random calls are made, 100,000 where it is not given. It needs cargo, rustc, python3, and what
-# host/search/run.sh needs. Variables name the tools, as host/machine.sh says, and
+# At least COUNT random calls are made, 100,000 where it is not given, half of them with lists of several PDUs. It needs
+# cargo, rustc, python3, and what host/search/run.sh needs. Variables name the tools, as host/machine.sh says, and
 #
 #     JUZAMBORE_LIB          a folder with ready libjuzambore.a and libgauge.a; without it `rt staticlib` makes both
 set -eu
@@ -48,7 +48,7 @@ cargo_does build --release --package trial
 trial=$work/built/$target/release/trial
 
 say "recorded calls; the trains are of host/reference.py"
-python3 host/reference.py trains 140 > "$work/trains"
+python3 host/reference.py trains 200 > "$work/trains"
 $emulator "$trial" vectors host/vectors/encode.txt host/vectors/decode.txt "$work/trains"
 
 say "random calls"
@@ -62,35 +62,57 @@ one_call() {
     echo $(($(counted "$trial" run "$@" 1) - $(counted "$trial" run "$@" 0)))
 }
 
-for mode in 1 2 3 4 5 6 7; do
+for mode in 1 2 3 4 5 6 7 mixed; do
     echo "encode $mode $(one_call proved encode $mode) $(one_call ordinary encode $mode) 0"
 done > "$work/counts"
-for mode in 1 2 3 4 5 6 7; do
+for mode in 1 2 3 4 5 6 7 mixed; do
     echo "decode $mode $(one_call proved decode $mode) $(one_call ordinary decode $mode) $(one_call shape decode $mode)"
 done >> "$work/counts"
 passes=$(one_call proved passes 6)
+$emulator "$trial" mixed > "$work/mixed"
 if [ -z "$emulator" ]; then "$trial" times; else sed 's/ .*/ 0 0 0 0/' "$work/counts"; fi > "$work/times"
 
-paste -d ' ' "$work/counts" "$work/times" | awk -v passes="$passes" '
+# What a call takes for all PDUs of the mixed train, each as a train of its own.
+parts() {
+    sort "$work/mixed" | uniq -c | while read -r times mode length; do
+        echo $((times * $(one_call proved "$1" "$mode:$length")))
+    done | awk '{ sum += $1 } END { print sum }'
+}
+
+# The first file has the PDUs of the mixed train. Its parts also cost what trains of N bits in their modes do, by the
+# share that each has of the N bits.
+paste -d ' ' "$work/counts" "$work/times" | awk -v passes="$passes" -v encodes="$(parts encode)" -v decodes="$(parts decode)" '
     BEGIN {
-        row = "%-6s %4s %9s %9s %10s %10s %10s %10s %9s %10s %10s %10s\n"
-        printf "\n%-11s %30s %21s %31s %21s\n", "N = 3456", "instructions of a call", "ours over theirs",
+        row = "%-6s %5s %9s %9s %10s %10s %10s %10s %9s %10s %10s %10s\n"
+        printf "\n%-12s %30s %21s %31s %21s\n", "N = 3456", "instructions of a call", "ours over theirs",
             "nanoseconds of a call", "ours over theirs"
         printf row, "call", "mode", "proved", "ordinary", "same shape", "ordinary", "same shape", "proved", "ordinary",
             "same shape", "ordinary", "same shape"
     }
     function some(x) { return x > 0 ? x : "-" }
     function over(ours, theirs) { return theirs > 0 ? sprintf("%.2f", ours / theirs) : "-" }
+    NR == FNR {
+        share[$1] += $2 / 3456
+        next
+    }
     {
         printf row, $1, $2, some($3), some($4), some($5), over($3, $4), over($3, $5), some($8), some($9), some($10),
             over($8, $9), over($8, $10)
         if ($1 == "decode" && $2 == 6) whole = $3
+        if ($2 == "mixed") {
+            mixed = mixed sprintf(", %s %s (ordinary %s)", $1, over($3, proved[$1]), over($4, ordinary[$1]))
+            alone = alone sprintf(", %s %s", $1, over($3, $1 == "encode" ? encodes : decodes))
+        }
+        proved[$1] += share[$2] * $3
+        ordinary[$1] += share[$2] * $4
     }
     END {
-        share = (whole - passes) / whole
-        printf "of a decode in mode 6, %.3f lies outside search and mark, bar 0.25: %s\n", share,
-            share <= 0.25 ? "held" : "NOT HELD"
-    }'
+        outside = (whole - passes) / whole
+        printf "of a decode in mode 6, %.3f lies outside search and mark, bar 0.25: %s\n", outside,
+            outside <= 0.25 ? "held" : "NOT HELD"
+        printf "instructions of the mixed train of 16 PDUs over those of its parts, each as a train of its own%s\n", alone
+        printf "and over those of its parts by their share of trains of N bits%s\n", mixed
+    }' "$work/mixed" -
 if [ -n "$emulator" ]; then echo "times are not measured: the code ran under an emulator"; fi
 
 say "host/search/run.sh"

@@ -8,6 +8,7 @@ use Prim.Native.Nat.{ℕ, zero, suc, _≤_}
 use native.Mathlib.Omega.{arith}
 use lib.Dec.{eqb}
 use lib.IntN.{ℤ}
+use Rattle.modes.specs.Pdus.{Pdu}
 use Rattle.modem.specs.Decode.{outcome, DecodeSoft, DecodeReadings}
 use Rattle.modem.proofs.Determined.{decode-soft-determined, decode-readings-determined}
 
@@ -21,18 +22,18 @@ flag-one zero (suc (suc c′)) h h′ e = absurd (omega arith)
 flag-one (suc zero) (suc (suc c′)) h h′ e = absurd (omega arith)
 flag-one (suc (suc c)) c′ h h′ e = absurd (omega arith)
 
-pub juzambore-soft-determined : (mode counter N a : ℕ) (soft : List ℤ) (octets words : List ℕ) (r r′ s s′ n n′ k k′ c c′ : ℕ) (o o′ w w′ : List ℕ)
-    → DecodeSoft mode counter N a soft octets words r (outcome s n k (eqb c 1) o w) → c ≤ 1
-    → DecodeSoft mode counter N a soft octets words r′ (outcome s′ n′ k′ (eqb c′ 1) o′ w′) → c′ ≤ 1
+pub juzambore-soft-determined : (ps : List Pdu) (counter a : ℕ) (soft : List ℤ) (octets words : List ℕ) (r r′ s s′ n n′ k k′ c c′ : ℕ) (o o′ w w′ : List ℕ)
+    → DecodeSoft ps counter a soft octets words r (outcome s n k (eqb c 1) o w) → c ≤ 1
+    → DecodeSoft ps counter a soft octets words r′ (outcome s′ n′ k′ (eqb c′ 1) o′ w′) → c′ ≤ 1
     → (r ≡ r′) × (c ≡ c′) × (outcome s n k (eqb c 1) o w ≡ outcome s′ n′ k′ (eqb c′ 1) o′ w′)
-juzambore-soft-determined mode counter N a soft octets words r r′ s s′ n n′ k k′ c c′ o o′ w w′ p low p′ low′ =
-    let (same, left) = decode-soft-determined mode counter N a soft octets words r r′ _ _ p p′ in
+juzambore-soft-determined ps counter a soft octets words r r′ s s′ n n′ k k′ c c′ o o′ w w′ p low p′ low′ =
+    let (same, left) = decode-soft-determined ps counter a soft octets words r r′ _ _ p p′ in
     (same, flag-one c c′ low low′ (λ t. left t .confirmed), left)
 
-pub juzambore-readings-determined : (mode counter N a : ℕ) (i q : List ℤ) (octets words : List ℕ) (r r′ s s′ n n′ k k′ c c′ : ℕ) (o o′ w w′ : List ℕ)
-    → DecodeReadings mode counter N a i q octets words r (outcome s n k (eqb c 1) o w) → c ≤ 1
-    → DecodeReadings mode counter N a i q octets words r′ (outcome s′ n′ k′ (eqb c′ 1) o′ w′) → c′ ≤ 1
+pub juzambore-readings-determined : (ps : List Pdu) (counter a : ℕ) (i q : List ℤ) (octets words : List ℕ) (r r′ s s′ n n′ k k′ c c′ : ℕ) (o o′ w w′ : List ℕ)
+    → DecodeReadings ps counter a i q octets words r (outcome s n k (eqb c 1) o w) → c ≤ 1
+    → DecodeReadings ps counter a i q octets words r′ (outcome s′ n′ k′ (eqb c′ 1) o′ w′) → c′ ≤ 1
     → (r ≡ r′) × (c ≡ c′) × (outcome s n k (eqb c 1) o w ≡ outcome s′ n′ k′ (eqb c′ 1) o′ w′)
-juzambore-readings-determined mode counter N a i q octets words r r′ s s′ n n′ k k′ c c′ o o′ w w′ p low p′ low′ =
-    let (same, left) = decode-readings-determined mode counter N a i q octets words r r′ _ _ p p′ in
+juzambore-readings-determined ps counter a i q octets words r r′ s s′ n n′ k k′ c c′ o o′ w w′ p low p′ low′ =
+    let (same, left) = decode-readings-determined ps counter a i q octets words r r′ _ _ p p′ in
     (same, flag-one c c′ low low′ (λ t. left t .confirmed), left)

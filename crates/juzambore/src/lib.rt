@@ -1,8 +1,10 @@
 // The public calls under C names, for the static library libjuzambore.a: `rt staticlib juzambore`. juzambore.h declares them.
-// Each carries the promise of its call in `modem`. A slice is a pointer and a length; lent buffers do not overlap.
+// Each carries the promise of its call in `modem`. A slice is a pointer and a length, a list's two arrays are pointers to sixteen
+// numbers; lent buffers do not overlap.
 ghost use mathlib.Core.Path.{_≡_};
 ghost use Prim.Native.Nat.{_≤_};
 ghost use lib.Dec.{eqb};
+ghost use Rattle.modes.specs.Pdus.{pdusOf};
 ghost use Rattle.modem.specs.Encode.{Encode};
 ghost use Rattle.modem.specs.Ideal.{Ideal};
 ghost use Rattle.modem.specs.Point.{MapsTo};
@@ -28,29 +30,31 @@ pub struct JuzamboreAnswer {
 
 #[no_mangle]
 pub extern "C" fn juzambore_encode(
-    mode: u32,
+    count: u32,
+    modes: &[u32; 16],
+    lengths: &[u32; 16],
     counter: u32,
-    n: u32,
     a: u32,
     octets: &[u8],
     sent: &mut [u8],
 ) -> u32
-    ensures { λ r. ⌜ Encode mode counter n a (now (octets .entry)) (now (sent .entry)) r (now (sent .exit)) ⌝ }
+    ensures { λ r. ⌜ Encode (pdusOf count (now (modes .entry)) (now (lengths .entry))) counter a (now (octets .entry)) (now (sent .entry)) r (now (sent .exit)) ⌝ }
 {
-    modem::encode(mode, counter, n, a, octets, sent)
+    modem::encode(count, modes, lengths, counter, a, octets, sent)
 }
 
 #[no_mangle]
 pub extern "C" fn juzambore_ideal(
-    mode: u32,
-    n: u32,
+    count: u32,
+    modes: &[u32; 16],
+    lengths: &[u32; 16],
     sent: &[u8],
     i: &mut [i16],
     q: &mut [i16],
 ) -> u32
-    ensures { λ r. ⌜ Ideal mode n (now (sent .entry)) (now (i .entry)) (now (q .entry)) r (now (i .exit)) (now (q .exit)) ⌝ }
+    ensures { λ r. ⌜ Ideal (pdusOf count (now (modes .entry)) (now (lengths .entry))) (now (sent .entry)) (now (i .entry)) (now (q .entry)) r (now (i .exit)) (now (q .exit)) ⌝ }
 {
-    modem::ideal(mode, n, sent, i, q)
+    modem::ideal(count, modes, lengths, sent, i, q)
 }
 
 #[no_mangle]
@@ -66,10 +70,17 @@ pub extern "C" fn juzambore_mapped(mode: u32, group: u32) -> JuzamborePoint
 }
 
 #[no_mangle]
-pub extern "C" fn juzambore_soften(mode: u32, n: u32, i: &[i16], q: &[i16], soft: &mut [i8]) -> u32
-    ensures { λ r. ⌜ Soften mode n (now (i .entry)) (now (q .entry)) (now (soft .entry)) r (now (soft .exit)) ⌝ }
+pub extern "C" fn juzambore_soften(
+    count: u32,
+    modes: &[u32; 16],
+    lengths: &[u32; 16],
+    i: &[i16],
+    q: &[i16],
+    soft: &mut [i8],
+) -> u32
+    ensures { λ r. ⌜ Soften (pdusOf count (now (modes .entry)) (now (lengths .entry))) (now (i .entry)) (now (q .entry)) (now (soft .entry)) r (now (soft .exit)) ⌝ }
 {
-    modem::soften(mode, n, i, q, soft)
+    modem::soften(count, modes, lengths, i, q, soft)
 }
 
 fn flag(confirmed: bool) -> u32
@@ -80,18 +91,19 @@ fn flag(confirmed: bool) -> u32
 
 #[no_mangle]
 pub extern "C" fn juzambore_decode_soft(
-    mode: u32,
+    count: u32,
+    modes: &[u32; 16],
+    lengths: &[u32; 16],
     counter: u32,
-    n: u32,
     a: u32,
     soft: &[i8],
     octets: &mut [u8],
     words: &mut [u64],
 ) -> JuzamboreAnswer
-    ensures { λ r. ⌜ DecodeSoft mode counter n a (now (soft .entry)) (now (octets .entry)) (now (words .entry)) (r .refusal) (outcome (r .symbols) (r .n) (r .cost) (eqb (r .confirmed) 1) (now (octets .exit)) (now (words .exit))) ⌝ }
+    ensures { λ r. ⌜ DecodeSoft (pdusOf count (now (modes .entry)) (now (lengths .entry))) counter a (now (soft .entry)) (now (octets .entry)) (now (words .entry)) (r .refusal) (outcome (r .symbols) (r .n) (r .cost) (eqb (r .confirmed) 1) (now (octets .exit)) (now (words .exit))) ⌝ }
     ensures flag { λ r. ⌜ r .confirmed ≤ 1 ⌝ }
 {
-    let answer = modem::decode_soft(mode, counter, n, a, soft, octets, words);
+    let answer = modem::decode_soft(count, modes, lengths, counter, a, soft, octets, words);
     JuzamboreAnswer {
         refusal: answer.refusal,
         symbols: answer.symbols,
@@ -103,19 +115,20 @@ pub extern "C" fn juzambore_decode_soft(
 
 #[no_mangle]
 pub extern "C" fn juzambore_decode_readings(
-    mode: u32,
+    count: u32,
+    modes: &[u32; 16],
+    lengths: &[u32; 16],
     counter: u32,
-    n: u32,
     a: u32,
     i: &[i16],
     q: &[i16],
     octets: &mut [u8],
     words: &mut [u64],
 ) -> JuzamboreAnswer
-    ensures { λ r. ⌜ DecodeReadings mode counter n a (now (i .entry)) (now (q .entry)) (now (octets .entry)) (now (words .entry)) (r .refusal) (outcome (r .symbols) (r .n) (r .cost) (eqb (r .confirmed) 1) (now (octets .exit)) (now (words .exit))) ⌝ }
+    ensures { λ r. ⌜ DecodeReadings (pdusOf count (now (modes .entry)) (now (lengths .entry))) counter a (now (i .entry)) (now (q .entry)) (now (octets .entry)) (now (words .entry)) (r .refusal) (outcome (r .symbols) (r .n) (r .cost) (eqb (r .confirmed) 1) (now (octets .exit)) (now (words .exit))) ⌝ }
     ensures flag { λ r. ⌜ r .confirmed ≤ 1 ⌝ }
 {
-    let answer = modem::decode_readings(mode, counter, n, a, i, q, octets, words);
+    let answer = modem::decode_readings(count, modes, lengths, counter, a, i, q, octets, words);
     JuzamboreAnswer {
         refusal: answer.refusal,
         symbols: answer.symbols,

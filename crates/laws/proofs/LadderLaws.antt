@@ -1,13 +1,14 @@
 -- Laws of a ladder of refusals: where it stops, where it goes on, and what "not refused" gives.
 -- Assumes nothing.
-use mathlib.Core.Path.{_≡_, refl}
-use mathlib.Core.Bool.{Bool, true, false}
+use mathlib.Core.Path.{_≡_, refl, sym, _∙_}
+use mathlib.Core.Bool.{Bool, true, false, not}
 use mathlib.Core.List.{List, [], _∷_, _++_}
 use Prim.Native.Nat.{ℕ, suc}
 use native.Mathlib.Omega.{arith}
-use lib.Dec.{T, ltb, ltb→lt}
-use Rattle.laws.specs.Ladder.{Rung, _when_, ladder}
-use Rattle.laws.proofs.Tables.{both, both-left, both-right}
+use lib.Dec.{T, ltb, eqb, ltb→lt}
+use borrow.Author.Tests.{eqb-true, eqb-false, eq-eqb, ne-eqb}
+use Rattle.laws.specs.Ladder.{Rung, _when_, ladder, given}
+use Rattle.laws.proofs.Tables.{both, both-left, both-of, both-right}
 
 -- every rung's number is above 0
 abbrev pub numbered : List Rung → Bool
@@ -47,3 +48,41 @@ unfolding ladder
 ladder-idle [] k = refl
 ladder-idle ((j when true) ∷ xs) k = refl
 ladder-idle ((j when false) ∷ xs) k = ladder-idle xs k
+
+-- a refusal that was found before is the answer
+pub given-stops : (k : ℕ) (rest : List Rung) → (k ≡ 0 → ⊥) → ladder (given k ∷ rest) ≡ k
+unfolding ladder
+given-stops k rest h = simp (ne-eqb k 0 h)
+
+-- and where there was none, what follows decides
+pub given-goes-on : (k : ℕ) (rest : List Rung) → k ≡ 0 → ladder (given k ∷ rest) ≡ ladder rest
+unfolding ladder
+given-goes-on k rest h = simp (eq-eqb k 0 h)
+
+pub given-passed : (k : ℕ) (rest : List Rung) → ladder (given k ∷ rest) ≡ 0 → (k ≡ 0) × (ladder rest ≡ 0)
+unfolding ladder
+given-passed k rest h = go (eqb k 0) refl h
+  where
+    go : (t : Bool) → eqb k 0 ≡ t → ladder ((k when not t) ∷ rest) ≡ 0 → (k ≡ 0) × (ladder rest ≡ 0)
+    go true t h = (eqb-true k 0 t, h)
+    go false t h = (h, absurd (eqb-false k 0 t h))
+
+-- a ladder's first part as one rung
+pub ladder-part : (xs ys : List Rung) → T (numbered xs) → ladder (xs ++ ys) ≡ ladder (given (ladder xs) ∷ ys)
+ladder-part xs ys t = go (eqb (ladder xs) 0) refl
+  where
+    go : (b : Bool) → eqb (ladder xs) 0 ≡ b → ladder (xs ++ ys) ≡ ladder (given (ladder xs) ∷ ys)
+    go true e = ladder-goes-on xs ys t (eqb-true _ 0 e) ∙ sym (given-goes-on _ ys (eqb-true _ 0 e))
+    go false e = ladder-stops xs ys (eqb-false _ 0 e) ∙ sym (given-stops _ ys (eqb-false _ 0 e))
+
+-- numbered rungs in a row
+pub numbered-both : (xs ys : List Rung) → T (numbered xs) → T (numbered ys) → T (numbered (xs ++ ys))
+numbered-both [] ys tx ty = ty
+numbered-both ((k when t) ∷ xs) ys tx ty =
+    both-of (ltb 0 k) (numbered (xs ++ ys)) (both-left (ltb 0 k) (numbered xs) tx) (numbered-both xs ys (both-right (ltb 0 k) (numbered xs) tx) ty)
+
+-- what stands under a rung counts by its own ladder
+pub ladder-under : (r : Rung) (xs ys : List Rung) → ladder xs ≡ ladder ys → ladder (r ∷ xs) ≡ ladder (r ∷ ys)
+unfolding ladder
+ladder-under (k when true) xs ys e = refl
+ladder-under (k when false) xs ys e = e

@@ -3,15 +3,15 @@
 use mathlib.Core.Path.{_≡_, refl, ap, ap₂, sym, _∙_}
 use mathlib.Core.Bool.{Bool, true, false}
 use mathlib.Core.Logic.{_≢_}
-use mathlib.Core.List.{List, [], _∷_, _++_}
+use mathlib.Core.List.{List, [], _∷_, _++_, append-assoc}
 use Prim.Native.Nat.{ℕ, zero, suc, _+_, _-_, _*_, _≤_, _<_}
-use native.Mathlib.Nat.{not-suc-le-zero, le-of-suc-le-suc}
+use native.Mathlib.Nat.{not-suc-le-zero, le-of-suc-le-suc, zero-add, suc-add}
 use native.Mathlib.Numerals.{add-one}
 use native.Mathlib.Omega.{arith}
 use lib.Dec.{eqb, ltb}
 use borrow.Author.Tests.{eqb-true, eqb-false, ltb-true, ltb-false}
-use lib.ListN.{length, getD, set, take, drop, length-append, length-drop, List·getD-append}
-use lib.Seq.{take-at, drop-at, drop-cons, set-at, append-snoc, getD-append-add, getD-drop, getD-set-same, getD-set-other, ext-getD}
+use lib.ListN.{length, getD, set, take, drop, length-append, length-take, length-drop, take-append-drop, List·getD-append}
+use lib.Seq.{take-all, take-at, drop-at, drop-append-le, drop-drop, drop-cons, set-at, append-snoc, getD-append-add, getD-drop, getD-set-same, getD-set-other, ext-getD}
 use Rattle.laws.specs.Lists.{tabulate, filled}
 
 module _ {ℓ} {A : Type ℓ} where
@@ -37,6 +37,18 @@ module _ {ℓ} {A : Type ℓ} where
   unfolding tabulate
   tabulate-snoc zero f = refl
   tabulate-snoc (suc n) f = ap (λ l. f zero ∷ l) (tabulate-snoc n (λ k. f (suc k)))
+
+  -- so many entries more
+  pub tabulate-append : (a n : ℕ) (f : ℕ → A) → tabulate (a + n) f ≡ tabulate a f ++ tabulate n (λ k. f (a + k))
+  unfolding tabulate
+  tabulate-append zero n f = ap (λ (m : ℕ). tabulate m f) (zero-add n) ∙ tabulate-ext n f _ (λ k h. ap f (sym (zero-add k)))
+  tabulate-append (suc a) n f =
+      ap (λ (m : ℕ). tabulate m f) (suc-add a n)
+      ∙ ap (λ l. f zero ∷ l) (tabulate-append a n (λ k. f (suc k)) ∙ ap (λ l. tabulate a (λ k. f (suc k)) ++ l) (tabulate-ext n _ _ (λ k h. ap f (sym (suc-add a k)))))
+
+  -- the part of a list from a on
+  pub part-all : (a : ℕ) (l : List A) → take (length l - a) (drop a l) ≡ drop a l
+  part-all a l = take-all (length l - a) (drop a l) (omega (arith, length-drop a l))
 
   -- an entry after a store
   pub after-set : (l : List A) (i : ℕ) (a : A) (j : ℕ) (d x : A) → i < length l → (j ≡ i → a ≡ x) → (j ≢ i → getD l j d ≡ x)
@@ -123,3 +135,21 @@ module _ {ℓ} {A : Type ℓ} where
           let hn : n ≤ k = ltb-false k n t in
           let hl : k < length l = omega (arith, e) in
           back k hn hl ∙ sym (filled-past n f l k d hn)
+
+  -- a part from a on, of so many entries, is filled from its front, and stands again where it was lent from
+  pub filled-part : (a n k : ℕ) (f g : ℕ → A) (l₀ l : List A) → l ≡ filled a f l₀ → n ≤ k → a + n ≤ length l₀
+      → ((j : ℕ) → j < n → g j ≡ f (a + j))
+      → take a l ++ (filled n g (take k (drop a l)) ++ drop k (drop a l)) ≡ filled (a + n) f l₀
+  unfolding filled
+  filled-part a n k f g l₀ l el within room same =
+      let rest : List A = drop a l₀ in
+      let behind : drop a l ≡ rest = ap (drop a) el ∙ filled-drop a f l₀ in
+      let front : take a l ≡ tabulate a f = ap (take a) el ∙ filled-take a f l₀ in
+      let enough : n ≤ length (take k rest) = omega (arith, length-take k rest, length-drop a l₀) in
+      let kept : drop n (take k rest) ++ drop k rest ≡ drop (a + n) l₀ =
+      sym (drop-append-le n (take k rest) (drop k rest) enough) ∙ ap (drop n) (take-append-drop k rest) ∙ drop-drop n a l₀
+      in
+      ap₂ (λ x y. x ++ ((tabulate n g ++ drop n (take k y)) ++ drop k y)) front behind
+      ∙ ap (λ x. tabulate a f ++ x) (append-assoc (tabulate n g) (drop n (take k rest)) (drop k rest) ∙ ap₂ _++_ (tabulate-ext n g _ same) kept)
+      ∙ sym (append-assoc (tabulate a f) (tabulate n (λ j. f (a + j))) (drop (a + n) l₀))
+      ∙ ap (λ x. x ++ drop (a + n) l₀) (sym (tabulate-append a n f))

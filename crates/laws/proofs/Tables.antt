@@ -19,6 +19,10 @@ pub both-left : (a b : Bool) → T (both a b) → T a
 both-left true b t = tt
 both-left false b t = t
 
+pub both-of : (a b : Bool) → T a → T b → T (both a b)
+both-of true b ta tb = tb
+both-of false b ta tb = ta
+
 pub both-right : (a b : Bool) → T (both a b) → T b
 both-right true b t = t
 both-right false b t = absurd t

@@ -1,51 +1,45 @@
 -- `encode`, `ideal` and `decode_readings` one after the other: what the last one answers, by the promises of all three.
 -- Assumes nothing.
 use mathlib.Core.Path.{_≡_, refl, sym, _∙_, ap, subst}
-use mathlib.Core.Bool.{true}
+use mathlib.Core.Bool.{true, not}
 use mathlib.Core.List.{List, [], _∷_, _++_}
 use Prim.Native.Nat.{ℕ, suc, _+_, _≤_, _<_}
 use lib.IntN.{ℤ}
 use lib.ListN.{length, getD, take, drop}
 use lib.Seq.{take-at, drop-at}
-use borrow.Author.Tests.{ltb-false, lt-ltb, le-ltb, eq-eqb, eqb-true, not-false}
-use Rattle.laws.specs.Ladder.{ladder}
+use borrow.Author.Tests.{lt-ltb, le-ltb, eq-eqb, eqb-true, not-false}
+use Rattle.laws.specs.Ladder.{_when_, ladder}
 use Rattle.laws.specs.Lists.{filled}
-use Rattle.laws.proofs.LadderLaws.{ladder-front, ladder-goes-on, ladder-passed}
+use Rattle.laws.proofs.LadderLaws.{ladder-front, ladder-passed, given-goes-on, given-passed}
 use Rattle.laws.proofs.ListLaws.{tabulate-length, filled-take}
-use Rattle.modes.specs.Modes.{constellationOf}
-use Rattle.modes.specs.Sizes.{symbols, carriers, sentBits, octetsOf}
-use Rattle.modes.specs.Refusals.{lengths, sized, described}
-use Rattle.modes.specs.Description.{Fit}
-use Rattle.modes.proofs.RefusalLaws.{described-legal}
+use Rattle.modes.specs.Sizes.{octetsOf}
+use Rattle.modes.specs.Pdus.{Pdu, lengthOf, symbolsOf, carriersOf, sentOf}
+use Rattle.modes.specs.Refusals.{lengthOutside, listSized, listDescribed}
+use Rattle.modes.proofs.RefusalLaws.{described-by, sized-by, list-legal}
+use Rattle.places.specs.Trains.{listed}
 use Rattle.coder.specs.Scrambler.{scrambled}
 use Rattle.coder.proofs.TrainLaws.{scrambled-train}
 use Rattle.points.specs.Levels.{allBits}
-use Rattle.points.specs.Points.{idealI, idealQ}
 use Rattle.trellis.specs.Wanted.{Returned, Confirmed}
-use Rattle.modem.specs.Encode.{sentOf, sentBit, encodeRefusal, Encode}
-use Rattle.modem.specs.Ideal.{idealRefusal, Ideal}
+use Rattle.modem.specs.Lent.{lent}
+use Rattle.modem.specs.Sent.{sentBy}
+use Rattle.modem.specs.Encode.{sentBit, encodeRefusal, Encode}
+use Rattle.modem.specs.Ideal.{listI, listQ, idealRefusal, Ideal}
 use Rattle.modem.specs.Soften.{softened}
 use Rattle.modem.specs.Costs.{roundedCost, differing}
-use Rattle.modem.specs.Decode.{Outcome, outcome, trainOf, Decoded, readingsRefusal, DecodeReadings}
+use Rattle.modem.specs.Decode.{Outcome, outcome, trainOf, DecodedList, readingsRefusal, DecodeReadings}
 use Rattle.modem.specs.Demands.{GivenBack}
-use Rattle.modem.proofs.IdealLaws.{ideal-done}
-use Rattle.modem.proofs.DecodeLaws.{neither, lent-passed, readings-done}
+use Rattle.modem.proofs.LentLaws.{enough-room, lent-passed, all-done, done-passed, lent-passes}
 use Rattle.modem.proofs.TrustLaws.{sent-low}
-use Rattle.modem.proofs.ReturnLaws.{tabulate-low, sentBy, readI, readQ, ideal-returned, ideal-confirmed, ideal-cost}
+use Rattle.modem.proofs.ReturnLaws.{tabulate-low, sentList, readI, readQ, ideal-returned, ideal-confirmed, ideal-cost}
 use Rattle.modem.proofs.Determined.{ideal-determined, decode-readings-determined}
 
--- a fit mode and length are not refused
-pub fit-sized : (mode N : ℕ) → Fit mode N → ladder (sized mode N) ≡ 0
-unfolding sized lengths ladder
-fit-sized mode N fit =
-    simp (
-      le-ltb mode 1 (fit .from-1),
-      le-ltb 7 mode (fit .to-7),
-      le-ltb N 72 (fit .from-72),
-      le-ltb 3456 N (fit .to-3456),
-      eq-eqb _ 0 (fit .whole-octets),
-      eq-eqb _ 0 (fit .whole-symbols),
-    )
+-- where a description is not refused, its list is not
+pub described-fits : (ps : List Pdu) (counter a : ℕ) → ladder (listDescribed ps counter a) ≡ 0 → ladder (listSized ps) ≡ 0
+described-fits ps counter a zero =
+    let (tests, p) = given-passed _ _ (sym (described-by ps counter a) ∙ zero) in
+    let (lens, p) = given-passed _ _ (ladder-passed 1 _ _ p .1) in
+    sized-by ps ∙ given-goes-on _ _ tests ∙ given-goes-on _ _ lens ∙ ladder-front ((3 when lengthOutside (lengthOf ps)) ∷ []) _ tt p
 
 -- bits are bits
 all-bits : (l : List ℕ) → ((m : ℕ) → getD l m 0 < 2) → allBits l ≡ true
@@ -53,68 +47,71 @@ unfolding allBits
 all-bits [] low = refl
 all-bits (x ∷ xs) low = rw (lt-ltb x 2 (low 0)) (all-bits xs (λ m. low (suc m)))
 
-module _ (mode counter N a : ℕ) (octets sent sent′ : List ℕ) (encoded : Encode mode counter N a octets sent 0 sent′) where
+module _ (ps : List Pdu) (counter a : ℕ) (octets sent sent′ : List ℕ) (encoded : Encode ps counter a octets sent 0 sent′) where
   -- what an encoding that is done says of its description and its octets
-  described-zero : ladder (described mode counter N a) ≡ 0
-  unfolding Encode encodeRefusal described lengths
-  described-zero = ladder-front (described mode counter N a) _ tt (sym (encoded .answer))
+  described-zero : ladder (listDescribed ps counter a) ≡ 0
+  unfolding Encode encodeRefusal
+  described-zero = done-passed _ _ _ _ _ _ _ encoded .0
 
-  octets-count : length octets ≡ octetsOf N
-  unfolding Encode encodeRefusal described lengths
-  octets-count =
-      let rest = sym (ladder-goes-on (described mode counter N a) _ tt described-zero) ∙ sym (encoded .answer) in
-      eqb-true _ _ (not-false _ (ladder-passed 6 _ _ rest .0))
+  octets-count : length octets ≡ octetsOf (lengthOf ps)
+  unfolding Encode encodeRefusal
+  octets-count = eqb-true _ _ (not-false _ (lent-passed _ _ _ (done-passed _ _ _ _ _ _ _ encoded .1) .0))
 
   -- the train that is sent
   abbrev w : List ℕ
-  w = scrambled counter N octets
+  w = scrambled counter (lengthOf ps) octets
 
-  sent-front : take (sentBits mode N) sent′ ≡ sentBy mode N a w
+  sent-front : take (sentOf ps) sent′ ≡ sentList ps a w
   unfolding Encode sentBit
-  sent-front = ap (take (sentBits mode N)) (encoded .done refl) ∙ filled-take (sentBits mode N) (sentBit mode counter N a octets) sent
+  sent-front = ap (take (sentOf ps)) (encoded .done refl) ∙ filled-take (sentOf ps) (sentBit ps counter a octets) sent
 
-  module _ (i q : List ℤ) (room-i : carriers mode N ≤ length i) (room-q : carriers mode N ≤ length q) where
+  module _ (i q : List ℤ) (room-i : carriersOf ps ≤ length i) (room-q : carriersOf ps ≤ length q) where
     -- the ideal readings that are then wanted
-    ideal-wanted : Ideal mode N (sentBy mode N a w) i q 0
-        (filled (carriers mode N) (idealI (constellationOf mode) (sentBy mode N a w)) i)
-        (filled (carriers mode N) (idealQ (constellationOf mode) (sentBy mode N a w)) q)
+    ideal-wanted : Ideal ps (sentList ps a w) i q 0
+        (filled (carriersOf ps) (listI ps (sentList ps a w)) i)
+        (filled (carriersOf ps) (listQ ps (sentList ps a w)) q)
+    unfolding Ideal idealRefusal
     ideal-wanted =
-        ideal-done mode N (sentBy mode N a w) i q
-        (fit-sized mode N (described-legal mode counter N a described-zero .fit))
-        (tabulate-length (sentBits mode N) _) room-i room-q _ _
-        (all-bits (sentBy mode N a w) (tabulate-low (sentBits mode N) (sentOf mode a w) (sent-low mode a w)))
-        refl refl
+        let bits = all-bits (sentList ps a w) (tabulate-low (sentOf ps) (sentBy (listed ps a) w) (sent-low (listed ps a) w)) in
+        all-done _ _ _ _ _ _ (described-fits ps counter a described-zero)
+        (lent-passes _ _ _
+        (simp (eq-eqb _ _ (tabulate-length (sentOf ps) (sentBy (listed ps a) w))))
+        (simp (le-ltb _ _ room-i, le-ltb _ _ room-q))
+        (ap not bits))
+        _ refl
 
     -- and `ideal` gives them
-    pub chain-ideal : (r : ℕ) (i′ q′ : List ℤ) → Ideal mode N (take (sentBits mode N) sent′) i q r i′ q′
-        → (r ≡ 0) × (take (carriers mode N) i′ ≡ readI mode N a w) × (take (carriers mode N) q′ ≡ readQ mode N a w)
+    pub chain-ideal : (r : ℕ) (i′ q′ : List ℤ) → Ideal ps (take (sentOf ps) sent′) i q r i′ q′
+        → (r ≡ 0) × (take (carriersOf ps) i′ ≡ readI ps a w) × (take (carriersOf ps) q′ ≡ readQ ps a w)
     chain-ideal r i′ q′ h =
-        let (done, on-i, on-q) = ideal-determined mode N (sentBy mode N a w) i q r 0 i′ q′ _ _ (rw sent-front at h) ideal-wanted in (
+        let (done, on-i, on-q) = ideal-determined ps (sentList ps a w) i q r 0 i′ q′ _ _ (rw sent-front at h) ideal-wanted in (
           done,
-          ap (take (carriers mode N)) on-i ∙ filled-take (carriers mode N) _ i,
-          ap (take (carriers mode N)) on-q ∙ filled-take (carriers mode N) _ q,
+          ap (take (carriersOf ps)) on-i ∙ filled-take (carriersOf ps) _ i,
+          ap (take (carriersOf ps)) on-q ∙ filled-take (carriersOf ps) _ q,
         )
 
   -- the outcome that is wanted of ideal readings: the octets, at no cost and confirmed
   given : (octets₀ words₀ : List ℕ) → Outcome
-  given octets₀ words₀ = outcome (symbols mode N) (sentBits mode N) 0 true (octets ++ drop (octetsOf N) octets₀) (filled (N + 6) (λ _. 0) words₀)
+  given octets₀ words₀ =
+      outcome (symbolsOf ps) (sentOf ps) 0 true (octets ++ drop (octetsOf (lengthOf ps)) octets₀) (filled (lengthOf ps + 6) (λ _. 0) words₀)
 
   module _ (low : (k : ℕ) → getD octets k 0 < 256) (octets₀ words₀ : List ℕ) where
-    front : take (octetsOf N) (octets ++ drop (octetsOf N) octets₀) ≡ octets
-    front = take-at octets (drop (octetsOf N) octets₀) (octetsOf N) octets-count
+    front : take (octetsOf (lengthOf ps)) (octets ++ drop (octetsOf (lengthOf ps)) octets₀) ≡ octets
+    front = take-at octets (drop (octetsOf (lengthOf ps)) octets₀) (octetsOf (lengthOf ps)) octets-count
 
-    given-decoded : Decoded mode counter N a (softened mode N (readI mode N a w) (readQ mode N a w)) octets₀ words₀ (given octets₀ words₀)
+    given-decoded : DecodedList ps counter a (softened ps (readI ps a w) (readQ ps a w)) octets₀ words₀ (given octets₀ words₀)
     unfolding given trainOf
     given-decoded =
-        let legal = described-legal mode counter N a described-zero in
+        let N : ℕ = lengthOf ps in
+        let legal = list-legal ps counter a described-zero in
         let train = scrambled-train counter N octets in
         let is : trainOf counter N (octets ++ drop (octetsOf N) octets₀) ≡ w = ap (scrambled counter N) front in
-        let soft : List ℤ = softened mode N (readI mode N a w) (readQ mode N a w) in
+        let soft : List ℤ = softened ps (readI ps a w) (readQ ps a w) in
         record {
           chosen = record {
-            returned = subst (Returned N (roundedCost mode N a soft)) (sym is) (ideal-returned mode counter N a legal w train);
-            costs = sym (ap (roundedCost mode N a soft) is ∙ ideal-cost mode counter N a legal w train);
-            only-then = λ _. subst (Confirmed N (roundedCost mode N a soft) (differing mode N a)) (sym is) (ideal-confirmed mode counter N a legal w train);
+            returned = subst (Returned N (roundedCost ps a soft)) (sym is) (ideal-returned ps counter a legal w train);
+            costs = sym (ap (roundedCost ps a soft) is ∙ ideal-cost ps counter a legal w train);
+            only-then = λ _. subst (Confirmed N (roundedCost ps a soft) (differing ps a)) (sym is) (ideal-confirmed ps counter a legal w train);
             always-then = λ _. refl;
             octets-low = rw front (record { count = octets-count; low = λ j h. low j });
             kept = drop-at octets (drop (octetsOf N) octets₀) (octetsOf N) octets-count;
@@ -124,54 +121,47 @@ module _ (mode counter N a : ℕ) (octets sent sent′ : List ℕ) (encoded : En
           all-sent = refl;
         }
 
-    given-wanted : octetsOf N ≤ length octets₀ → N + 6 ≤ length words₀
-        → DecodeReadings mode counter N a (readI mode N a w) (readQ mode N a w) octets₀ words₀ 0 (given octets₀ words₀)
-    unfolding ladder
+    given-wanted : octetsOf (lengthOf ps) ≤ length octets₀ → lengthOf ps + 6 ≤ length words₀
+        → DecodeReadings ps counter a (readI ps a w) (readQ ps a w) octets₀ words₀ 0 (given octets₀ words₀)
+    unfolding DecodeReadings readingsRefusal
     given-wanted room-o room-w =
-        readings-done mode counter N a octets₀ words₀ (readI mode N a w) (readQ mode N a w) described-zero (given octets₀ words₀)
+        all-done _ _ _ _ _ _ described-zero
+        (lent-passes _ _ _
         (simp (
-          eq-eqb _ _ (tabulate-length (carriers mode N) (idealI (constellationOf mode) (sentBy mode N a w))),
-          eq-eqb _ _ (tabulate-length (carriers mode N) (idealQ (constellationOf mode) (sentBy mode N a w))),
-          le-ltb _ _ room-o,
-          le-ltb _ _ room-w,
+          eq-eqb _ _ (tabulate-length (carriersOf ps) (listI ps (sentList ps a w))),
+          eq-eqb _ _ (tabulate-length (carriersOf ps) (listQ ps (sentList ps a w))),
         ))
-        given-decoded
+        (simp (le-ltb _ _ room-o, le-ltb _ _ room-w))
+        refl)
+        _ given-decoded
 
     -- and `decode_readings` gives it
-    pub chain-decoded : (i q : List ℤ) → i ≡ readI mode N a w → q ≡ readQ mode N a w → octetsOf N ≤ length octets₀ → N + 6 ≤ length words₀
-        → (r : ℕ) (o : Outcome) → DecodeReadings mode counter N a i q octets₀ words₀ r o → GivenBack N octets r o
+    pub chain-decoded : (i q : List ℤ) → i ≡ readI ps a w → q ≡ readQ ps a w → octetsOf (lengthOf ps) ≤ length octets₀ → lengthOf ps + 6 ≤ length words₀
+        → (r : ℕ) (o : Outcome) → DecodeReadings ps counter a i q octets₀ words₀ r o → GivenBack (lengthOf ps) octets r o
     unfolding given
     chain-decoded i q on-i on-q room-o room-w r o h =
-        let (done, same) = decode-readings-determined mode counter N a _ _ octets₀ words₀ r 0 o (given octets₀ words₀) (rw (on-i, on-q) at h) (given-wanted room-o room-w) in
+        let (done, same) = decode-readings-determined ps counter a _ _ octets₀ words₀ r 0 o (given octets₀ words₀) (rw (on-i, on-q) at h) (given-wanted room-o room-w) in
         rw same (record { done = done; back = front; no-cost = refl; sure = refl })
 
 -- what a call that is done says of the room that it was lent
-ideal-room : (mode N : ℕ) (sent : List ℕ) (i q i′ q′ : List ℤ) → Ideal mode N sent i q 0 i′ q′ → (carriers mode N ≤ length i) × (carriers mode N ≤ length q)
-unfolding Ideal idealRefusal sized lengths
-ideal-room mode N sent i q i′ q′ h =
-    let front = ladder-front (sized mode N) _ tt (sym (h .answer)) in
-    let p7 = ladder-passed 6 _ _ (sym (ladder-goes-on (sized mode N) _ tt front) ∙ sym (h .answer)) in
-    let (on-i, on-q) = neither _ _ (ladder-passed 7 _ _ (p7 .1) .0) in
-    (ltb-false _ _ on-i, ltb-false _ _ on-q)
+ideal-room : (ps : List Pdu) (sent : List ℕ) (i q i′ q′ : List ℤ) → Ideal ps sent i q 0 i′ q′ → (carriersOf ps ≤ length i) × (carriersOf ps ≤ length q)
+unfolding Ideal idealRefusal
+ideal-room ps sent i q i′ q′ h = enough-room _ _ _ _ (lent-passed _ _ _ (done-passed _ _ _ _ _ _ _ h .1) .1)
 
-readings-room : (mode counter N a : ℕ) (i q : List ℤ) (octets words : List ℕ) (o : Outcome) → DecodeReadings mode counter N a i q octets words 0 o
-    → (octetsOf N ≤ length octets) × (N + 6 ≤ length words)
-unfolding DecodeReadings readingsRefusal described lengths
-readings-room mode counter N a i q octets words o h =
-    let front = ladder-front (described mode counter N a) _ tt (sym (h .answer)) in
-    let (_, short, _) = lent-passed _ _ _ (sym (ladder-goes-on (described mode counter N a) _ tt front) ∙ sym (h .answer)) in
-    let (on-octets, on-words) = neither _ _ short in
-    (ltb-false _ _ on-octets, ltb-false _ _ on-words)
+readings-room : (ps : List Pdu) (counter a : ℕ) (i q : List ℤ) (octets words : List ℕ) (o : Outcome) → DecodeReadings ps counter a i q octets words 0 o
+    → (octetsOf (lengthOf ps) ≤ length octets) × (lengthOf ps + 6 ≤ length words)
+unfolding DecodeReadings readingsRefusal
+readings-room ps counter a i q octets words o h = enough-room _ _ _ _ (lent-passed _ _ _ (done-passed _ _ _ _ _ _ _ h .1) .1)
 
 -- three calls that are done one after the other
-pub chain-done : (mode counter N a : ℕ) (octets sent sent′ : List ℕ) (i q i′ q′ : List ℤ) (octets₀ words₀ : List ℕ) (o : Outcome)
+pub chain-done : (ps : List Pdu) (counter a : ℕ) (octets sent sent′ : List ℕ) (i q i′ q′ : List ℤ) (octets₀ words₀ : List ℕ) (o : Outcome)
     → ((k : ℕ) → getD octets k 0 < 256)
-    → Encode mode counter N a octets sent 0 sent′
-    → Ideal mode N (take (sentBits mode N) sent′) i q 0 i′ q′
-    → DecodeReadings mode counter N a (take (carriers mode N) i′) (take (carriers mode N) q′) octets₀ words₀ 0 o
-    → GivenBack N octets 0 o
-chain-done mode counter N a octets sent sent′ i q i′ q′ octets₀ words₀ o low encoded read decoded =
-    let (room-i, room-q) = ideal-room mode N _ i q i′ q′ read in
-    let (room-o, room-w) = readings-room mode counter N a _ _ octets₀ words₀ o decoded in
-    let (_, on-i, on-q) = chain-ideal mode counter N a octets sent sent′ encoded i q room-i room-q 0 i′ q′ read in
-    chain-decoded mode counter N a octets sent sent′ encoded low octets₀ words₀ _ _ on-i on-q room-o room-w 0 o decoded
+    → Encode ps counter a octets sent 0 sent′
+    → Ideal ps (take (sentOf ps) sent′) i q 0 i′ q′
+    → DecodeReadings ps counter a (take (carriersOf ps) i′) (take (carriersOf ps) q′) octets₀ words₀ 0 o
+    → GivenBack (lengthOf ps) octets 0 o
+chain-done ps counter a octets sent sent′ i q i′ q′ octets₀ words₀ o low encoded read decoded =
+    let (room-i, room-q) = ideal-room ps _ i q i′ q′ read in
+    let (room-o, room-w) = readings-room ps counter a _ _ octets₀ words₀ o decoded in
+    let (_, on-i, on-q) = chain-ideal ps counter a octets sent sent′ encoded i q room-i room-q 0 i′ q′ read in
+    chain-decoded ps counter a octets sent sent′ encoded low octets₀ words₀ _ _ on-i on-q room-o room-w 0 o decoded

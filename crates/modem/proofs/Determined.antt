@@ -2,29 +2,32 @@
 -- Assumes nothing.
 use mathlib.Core.Path.{_≡_}
 use mathlib.Core.List.{List}
-use Prim.Native.Nat.{ℕ}
+use Prim.Native.Nat.{ℕ, _%_}
 use lib.Ieee.{Float}
 use lib.IntN.{ℤ}
+use Rattle.laws.specs.Ladder.{ladder}
 use Rattle.laws.proofs.AnswerLaws.{fixed, determined}
-use Rattle.laws.proofs.LadderLaws.{ladder-front}
-use Rattle.modes.specs.Refusals.{lengths, described}
-use Rattle.modes.proofs.RefusalLaws.{described-legal}
+use Rattle.laws.proofs.LadderLaws.{given-passed}
+use Rattle.modes.specs.Pdus.{Pdu, lengthOf}
+use Rattle.modes.specs.Refusals.{listDescribed}
+use Rattle.modes.proofs.RefusalLaws.{list-legal}
 use Rattle.modem.specs.Encode.{Encode}
 use Rattle.modem.specs.Ideal.{Ideal}
 use Rattle.modem.specs.Point.{MapsTo}
-use Rattle.modem.specs.Soften.{softened, Soften}
-use Rattle.modem.specs.Decode.{Outcome, nothing, Decoded, softRefusal, DecodeSoft, readingsRefusal, DecodeReadings}
+use Rattle.modem.specs.Soften.{Soften}
+use Rattle.modem.specs.Decode.{Outcome, softRefusal, DecodeSoft, readingsRefusal, DecodeReadings}
+use Rattle.modem.proofs.SizeLaws.{octets-whole}
 use Rattle.modem.proofs.OutcomeLaws.{decoded-one}
 
-pub encode-determined : (mode counter N a : ℕ) (octets sent : List ℕ) (r r′ : ℕ) (s s′ : List ℕ)
-    → Encode mode counter N a octets sent r s → Encode mode counter N a octets sent r′ s′ → (r ≡ r′) × (s ≡ s′)
+pub encode-determined : (ps : List Pdu) (counter a : ℕ) (octets sent : List ℕ) (r r′ : ℕ) (s s′ : List ℕ)
+    → Encode ps counter a octets sent r s → Encode ps counter a octets sent r′ s′ → (r ≡ r′) × (s ≡ s′)
 unfolding Encode
-encode-determined mode counter N a octets sent r r′ s s′ p q = determined _ _ _ r r′ s s′ p q
+encode-determined ps counter a octets sent r r′ s s′ p q = determined _ _ _ r r′ s s′ p q
 
-pub ideal-determined : (mode N : ℕ) (sent : List ℕ) (i q : List ℤ) (r r′ : ℕ) (i₁ q₁ i₂ q₂ : List ℤ)
-    → Ideal mode N sent i q r i₁ q₁ → Ideal mode N sent i q r′ i₂ q₂ → (r ≡ r′) × (i₁ ≡ i₂) × (q₁ ≡ q₂)
+pub ideal-determined : (ps : List Pdu) (sent : List ℕ) (i q : List ℤ) (r r′ : ℕ) (i₁ q₁ i₂ q₂ : List ℤ)
+    → Ideal ps sent i q r i₁ q₁ → Ideal ps sent i q r′ i₂ q₂ → (r ≡ r′) × (i₁ ≡ i₂) × (q₁ ≡ q₂)
 unfolding Ideal
-ideal-determined mode N sent i q r r′ i₁ q₁ i₂ q₂ p p′ =
+ideal-determined ps sent i q r r′ i₁ q₁ i₂ q₂ p p′ =
     let (same, left) = determined _ _ _ r r′ (i₁, q₁) (i₂, q₂) p p′ in
     (same, λ t. left t .0, λ t. left t .1)
 
@@ -35,23 +38,23 @@ mapped-determined mode group r r′ i i′ q q′ p p′ =
     let (same, left) = determined _ _ _ r r′ (i, q) (i′, q′) p p′ in
     (same, λ t. left t .0, λ t. left t .1)
 
-pub soften-determined : (mode N : ℕ) (i q soft : List ℤ) (r r′ : ℕ) (s s′ : List ℤ)
-    → Soften mode N i q soft r s → Soften mode N i q soft r′ s′ → (r ≡ r′) × (s ≡ s′)
+pub soften-determined : (ps : List Pdu) (i q soft : List ℤ) (r r′ : ℕ) (s s′ : List ℤ)
+    → Soften ps i q soft r s → Soften ps i q soft r′ s′ → (r ≡ r′) × (s ≡ s′)
 unfolding Soften
-soften-determined mode N i q soft r r′ s s′ p p′ = determined _ _ _ r r′ s s′ p p′
+soften-determined ps i q soft r r′ s s′ p p′ = determined _ _ _ r r′ s s′ p p′
 
-pub decode-soft-determined : (mode counter N a : ℕ) (soft : List ℤ) (octets words : List ℕ) (r r′ : ℕ) (o o′ : Outcome)
-    → DecodeSoft mode counter N a soft octets words r o → DecodeSoft mode counter N a soft octets words r′ o′ → (r ≡ r′) × (o ≡ o′)
-unfolding DecodeSoft softRefusal described lengths
-decode-soft-determined mode counter N a soft octets words r r′ o o′ =
-    fixed _ (Decoded mode counter N a soft octets words) (nothing octets words)
-    (λ zero. decoded-one mode counter N a soft octets words (described-legal mode counter N a (ladder-front (described mode counter N a) _ tt zero) .fit .whole-octets))
-    r r′ o o′
+-- a description that is not refused has whole octets
+described-whole : (ps : List Pdu) (counter a : ℕ) → ladder (listDescribed ps counter a) ≡ 0 → lengthOf ps % 8 ≡ 0
+described-whole ps counter a zero = octets-whole ps (list-legal ps counter a zero .fit .each)
 
-pub decode-readings-determined : (mode counter N a : ℕ) (i q : List ℤ) (octets words : List ℕ) (r r′ : ℕ) (o o′ : Outcome)
-    → DecodeReadings mode counter N a i q octets words r o → DecodeReadings mode counter N a i q octets words r′ o′ → (r ≡ r′) × (o ≡ o′)
-unfolding DecodeReadings readingsRefusal described lengths
-decode-readings-determined mode counter N a i q octets words r r′ o o′ =
-    fixed _ (Decoded mode counter N a (softened mode N i q) octets words) (nothing octets words)
-    (λ zero. decoded-one mode counter N a (softened mode N i q) octets words (described-legal mode counter N a (ladder-front (described mode counter N a) _ tt zero) .fit .whole-octets))
-    r r′ o o′
+pub decode-soft-determined : (ps : List Pdu) (counter a : ℕ) (soft : List ℤ) (octets words : List ℕ) (r r′ : ℕ) (o o′ : Outcome)
+    → DecodeSoft ps counter a soft octets words r o → DecodeSoft ps counter a soft octets words r′ o′ → (r ≡ r′) × (o ≡ o′)
+unfolding DecodeSoft softRefusal
+decode-soft-determined ps counter a soft octets words r r′ o o′ =
+    fixed _ _ _ (λ zero. decoded-one counter _ _ _ _ _ octets words (described-whole ps counter a (given-passed _ _ zero .0))) r r′ o o′
+
+pub decode-readings-determined : (ps : List Pdu) (counter a : ℕ) (i q : List ℤ) (octets words : List ℕ) (r r′ : ℕ) (o o′ : Outcome)
+    → DecodeReadings ps counter a i q octets words r o → DecodeReadings ps counter a i q octets words r′ o′ → (r ≡ r′) × (o ≡ o′)
+unfolding DecodeReadings readingsRefusal
+decode-readings-determined ps counter a i q octets words r r′ o o′ =
+    fixed _ _ _ (λ zero. decoded-one counter _ _ _ _ _ octets words (described-whole ps counter a (given-passed _ _ zero .0))) r r′ o o′

@@ -3,8 +3,7 @@
 use mathlib.Core.Path.{_≡_, refl, sym, _∙_, ap, ap₂}
 use mathlib.Core.Bool.{Bool, true, false, true≢false, not, _||_}
 use mathlib.Core.List.{List}
-use Prim.Native.Nat.{ℕ, zero, suc, _+_, _-_, _*_, _<_}
-use native.Mathlib.Nat.{zero-add}
+use Prim.Native.Nat.{ℕ, zero, suc, _+_, _-_, _*_, _≤_, _<_}
 use native.Mathlib.Omega.{arith}
 use lib.Dec.{ltb, eqb}
 use lib.IntN.{ℤ, pos, negsuc, negℤ}
@@ -15,27 +14,22 @@ use Rattle.laws.specs.Sums.{total}
 use Rattle.laws.specs.Signed.{above, counted}
 use Rattle.laws.proofs.SumLaws.{total-ext}
 use Rattle.laws.proofs.SignedLaws.{counted-neg}
-use Rattle.modes.specs.declared.Constellation.{Constellation}
-use Rattle.modes.specs.declared.Rate.{Rate}
-use Rattle.modes.specs.Modes.{bitsOf, numberOf}
-use Rattle.modes.specs.Sizes.{symbols, sentBits}
-use Rattle.modes.specs.Description.{Legal}
+use Rattle.modes.specs.Pdus.{Pdu, lengthOf, sentOf}
+use Rattle.modes.specs.Description.{EachFit}
 use Rattle.places.specs.Selection.{Place, At, Dropped, Selection, place, origin, atPlace}
-use Rattle.places.specs.Sending.{symbolBits, originOf, Spread}
-use Rattle.places.specs.Trains.{train}
+use Rattle.places.specs.Sending.{SpreadAll}
+use Rattle.places.specs.Trains.{listed}
 use Rattle.places.proofs.SelectionLaws.{Takes, origin-place, place-origin, total-sent}
 use Rattle.places.proofs.BlockLaws.{dropped-not-at}
-use Rattle.places.proofs.SourceLaws.{pdu-enums}
-use Rattle.places.proofs.TrainLaws.{takes-train}
+use Rattle.places.proofs.TrainLaws.{takes-listed}
 use Rattle.coder.specs.Encoder.{tailed, coded}
 use Rattle.trellis.specs.Heard as heard
 use Rattle.search.specs.Bytes.{byteCost, byteHeard, costOf, heardOf}
 use Rattle.soft.specs.Soft.{bitCost}
 use Rattle.soft.specs.Carriers.{isSoft, allSoft}
 use Rattle.soft.proofs.RangeLaws.{allSoft-at}
-use Rattle.modem.specs.Encode.{sentOf}
-use Rattle.modem.specs.Costs.{costBy, roundedCost, differing}
-use Rattle.modem.proofs.SendLaws.{sent-by-enums}
+use Rattle.modem.specs.Sent.{sentBy, costBy, differingBy}
+use Rattle.modem.specs.Costs.{roundedCost, differing}
 
 -- a byte that is heard costs by how far it is from 128
 heard-cost : (x b : ℕ) → 0 < x → byteCost x b ≡ choose (eqb b 0) (x - 128) (128 - x)
@@ -103,45 +97,31 @@ zeros-at (suc n) zero = refl
 zeros-at (suc n) (suc m) = zeros-at n m
 
 -- the soft bytes of a train, spread over its coded bits
-module _ (c : Constellation) (rate : Rate) (counter N a : ℕ) (legal : Legal (numberOf c rate) counter N a)
-    (soft : List ℤ) (bytes : List ℕ) (k : ℕ)
-    (spread : Spread (bitsOf c) rate a 0 (symbolBits (bitsOf c) (symbols (numberOf c rate) N)) soft (replicate k 0) bytes)
-    (some : (q : ℕ) → q < sentBits (numberOf c rate) N → 0 < counted 128 (getD soft q (pos 0)))
+module _ (ps : List Pdu) (a : ℕ) (each : EachFit ps) (inside : a + 72 ≤ lengthOf ps) (soft : List ℤ) (bytes : List ℕ) (k : ℕ)
+    (spread : SpreadAll ps a soft (replicate k 0) bytes)
+    (some : (q : ℕ) → q < sentOf ps → 0 < counted 128 (getD soft q (pos 0)))
   where
-    mode : ℕ
-    mode = numberOf c rate
+    train-total : (g F : ℕ → ℕ → ℕ)
+        → ((m : ℕ) → g m 0 ≡ 0)
+        → ((m q : ℕ) → q < sentOf ps → g m (counted 128 (getD soft q (pos 0))) ≡ F m q)
+        → total (2 * (lengthOf ps + 6)) (λ m. g m (getD bytes m 0)) ≡ total (sentOf ps) (λ q. F (origin (listed ps a) q) q)
+    unfolding SpreadAll
+    train-total =
+        heard-total (listed ps a) (2 * (lengthOf ps + 6)) (sentOf ps) (takes-listed ps a each inside) soft bytes
+        (spread .put) (λ m free. spread .others m free ∙ zeros-at k m)
 
-    takes : Takes (train mode a) (2 * (N + 6)) (sentBits mode N)
-    unfolding mode
-    takes =
-        let fit = legal .fit in
-        takes-train (numberOf c rate) N a (fit .from-1) (fit .to-7) (fit .whole-symbols) (legal .inside)
-
-    same-origin : (q : ℕ) → originOf (bitsOf c) rate a 0 q ≡ origin (train mode a) q
-    unfolding mode originOf train origin
-    same-origin q = rw (zero-add, pdu-enums c rate (legal .fit .from-1) (legal .fit .to-7)) refl
-
-    put : (q : ℕ) → q < sentBits mode N → getD bytes (origin (train mode a) q) 0 ≡ counted 128 (getD soft q (pos 0))
-    unfolding mode Spread
-    put q h = ap (λ (m : ℕ). getD bytes m 0) (sym (same-origin q)) ∙ spread .put q (rw (sent-by-enums c rate counter N a legal) h)
-
-    others : (m : ℕ) → ((q : ℕ) → q < sentBits mode N → origin (train mode a) q ≡ m → ⊥) → getD bytes m 0 ≡ 0
-    unfolding mode Spread
-    others m free =
-        spread .others m (λ q h there. free q (rw (sent-by-enums c rate counter N a legal) at h) (sym (same-origin q) ∙ there)) ∙ zeros-at k m
-
-    pub same-cost : (w : List ℕ) → heard.trainCost (costOf bytes) N w ≡ roundedCost (numberOf c rate) N a soft w
-    unfolding mode heard.trainCost costOf roundedCost costBy sentOf byteCost
+    pub same-cost : (w : List ℕ) → heard.trainCost (costOf bytes) (lengthOf ps) w ≡ roundedCost ps a soft w
+    unfolding heard.trainCost costOf roundedCost costBy sentBy byteCost
     same-cost w =
-        heard-total (train mode a) (2 * (N + 6)) (sentBits mode N) takes soft bytes put others
+        train-total
         (λ m x. byteCost x (coded (tailed w) m)) (λ m q. bitCost (getD soft q (pos 0)) (coded (tailed w) m))
         (λ m. refl)
         (λ m q h. counted-cost (getD soft q (pos 0)) (some q h) (coded (tailed w) m))
 
-    pub same-differing : (w v : List ℕ) → heard.differing (heardOf bytes) N w v ≡ differing (numberOf c rate) N a w v
-    unfolding mode heard.differing heardOf differing sentOf byteHeard
+    pub same-differing : (w v : List ℕ) → heard.differing (heardOf bytes) (lengthOf ps) w v ≡ differing ps a w v
+    unfolding heard.differing heardOf differing differingBy sentBy byteHeard
     same-differing w v =
-        heard-total (train mode a) (2 * (N + 6)) (sentBits mode N) takes soft bytes put others
+        train-total
         (λ m x. choose (eqb (coded (tailed w) m) (coded (tailed v) m)) 0 (byteHeard x))
         (λ m q. choose (eqb (coded (tailed w) m) (coded (tailed v) m)) 0 1)
         (λ m. none (eqb (coded (tailed w) m) (coded (tailed v) m)))

@@ -1,6 +1,12 @@
+pub mod LentLaws
+pub mod SizeLaws
+pub mod ToldLaws
+pub mod PassedLaws
 pub mod SendLaws
-pub mod EncodeLaws
-pub mod IdealLaws
+pub mod ReadLaws
+pub mod SoftenedLaws
+pub mod HeardLaws
+pub mod PickLaws
 pub mod PointLaws
 pub mod TrustLaws
 pub mod ReturnLaws
@@ -9,9 +15,4 @@ pub mod Determined
 pub mod ChainLaws
 pub mod Composed
 pub mod Demands
-pub mod PassedLaws
-pub mod PickLaws
-pub mod HeardLaws
-pub mod SoftenLaws
-pub mod ReadLaws
-pub mod DecodeLaws
+pub mod One

@@ -4,13 +4,11 @@ use mathlib.Core.Path.{_≡_, refl, sym, _∙_, ap, ap₂, subst}
 use mathlib.Core.Bool.{Bool, true, false}
 use mathlib.Core.List.{List, _++_}
 use Prim.Native.Nat.{ℕ, _%_}
-use lib.IntN.{ℤ}
 use lib.ListN.{take, take-append-drop}
 use Rattle.modes.specs.Sizes.{octetsOf}
 use Rattle.trellis.specs.Wanted.{Confirmed}
 use Rattle.trellis.proofs.WantedLaws.{returned-unique}
 use Rattle.unique.proofs.OctetLaws.{octets-back}
-use Rattle.modem.specs.Costs.{roundedCost, differing}
 use Rattle.modem.specs.Decode.{Outcome, trainOf, Decoded}
 
 -- of two marks that each say whether something holds, each is the other
@@ -19,8 +17,9 @@ same-mark true y A to from to′ from′ = sym (from′ (to refl))
 same-mark false true A to from to′ from′ = from (to′ refl)
 same-mark false false A to from to′ from′ = refl
 
-module _ (mode counter N a : ℕ) (soft : List ℤ) (octets words : List ℕ) (whole : N % 8 ≡ 0) where
-  pub decoded-one : (x y : Outcome) → Decoded mode counter N a soft octets words x → Decoded mode counter N a soft octets words y → x ≡ y
+module _ (counter N symbols n : ℕ) (cost : List ℕ → ℕ) (differing : List ℕ → List ℕ → ℕ) (octets words : List ℕ) (whole : N % 8 ≡ 0) where
+  pub decoded-one : (x y : Outcome)
+      → Decoded counter N symbols n cost differing octets words x → Decoded counter N symbols n cost differing octets words y → x ≡ y
   unfolding trainOf
   decoded-one x y dx dy =
       let cx = dx .chosen in
@@ -30,11 +29,11 @@ module _ (mode counter N a : ℕ) (soft : List ℤ) (octets words : List ℕ) (w
       let same-octets : x .octets ≡ y .octets =
       sym (take-append-drop (octetsOf N) (x .octets)) ∙ ap₂ _++_ front (cx .kept ∙ sym (cy .kept)) ∙ take-append-drop (octetsOf N) (y .octets)
       in
-      let same-cost : x .cost ≡ y .cost = cx .costs ∙ ap (roundedCost mode N a soft) same-train ∙ sym (cy .costs) in
+      let same-cost : x .cost ≡ y .cost = cx .costs ∙ ap cost same-train ∙ sym (cy .costs) in
       let same-confirmed : x .confirmed ≡ y .confirmed =
-      same-mark _ _ (Confirmed N (roundedCost mode N a soft) (differing mode N a) (trainOf counter N (x .octets))) (cx .only-then) (cx .always-then)
-      (λ t. subst (Confirmed N (roundedCost mode N a soft) (differing mode N a)) (sym same-train) (cy .only-then t))
-      (λ t. cy .always-then (subst (Confirmed N (roundedCost mode N a soft) (differing mode N a)) same-train t))
+      same-mark _ _ (Confirmed N cost differing (trainOf counter N (x .octets))) (cx .only-then) (cx .always-then)
+      (λ t. subst (Confirmed N cost differing) (sym same-train) (cy .only-then t))
+      (λ t. cy .always-then (subst (Confirmed N cost differing) same-train t))
       in
       λ t.
       record {

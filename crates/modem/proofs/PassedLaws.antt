@@ -1,97 +1,100 @@
--- What is known once a description has passed its tests and is held as a Train.
+-- What is known once a description has passed its tests, is held as a Train and has been counted.
 -- Assumes nothing.
-use mathlib.Core.Path.{_≡_, sym, _∙_, ap, ap₂, subst}
+use mathlib.Core.Path.{_≡_, sym, _∙_, ap, subst}
 use mathlib.Core.Bool.{Bool}
 use mathlib.Core.List.{List}
 use Prim.Native.Nat.{ℕ, _*_, _≤_}
 use native.Mathlib.Omega.{arith}
 use lib.IntN.{ℤ}
 use Rattle.laws.specs.Ladder.{ladder}
+use Rattle.laws.specs.Lists.{filled}
 use Rattle.modes.specs.declared.Train.{Train}
-use Rattle.modes.specs.declared.Mode.{Mode}
-use Rattle.modes.specs.Modes.{constellationOf, rateOf, number, numberOf}
-use Rattle.modes.specs.Sizes.{symbols, carriers, sentBits}
-use Rattle.modes.specs.Refusals.{sized, described}
-use Rattle.modes.specs.Description.{Fit, Legal, Describes}
-use Rattle.modes.proofs.ModeLaws.{number-back}
-use Rattle.modes.proofs.RefusalLaws.{sized-fit, described-legal}
-use Rattle.modes.proofs.DescriptionLaws.{number-is, train-legal}
-use Rattle.modes.proofs.SizeLaws.{sent-within}
-use Rattle.modem.specs.Soften.{softened}
+use Rattle.modes.specs.Pdus.{Pdu, lengthOf, symbolsOf, carriersOf, sentOf}
+use Rattle.modes.specs.Refusals.{listSized, listDescribed}
+use Rattle.modes.specs.Description.{FitList, LegalList, pdusIn, Describes}
+use Rattle.modes.proofs.RefusalLaws.{list-fit, list-legal}
+use Rattle.modes.proofs.SizeLaws.{symbols-of-within, sent-of-within}
+use Rattle.modem.specs.Encode.{sentBit}
+use Rattle.modem.specs.Ideal.{listI, listQ}
+use Rattle.modem.specs.Soften.{listSoft}
 use Rattle.modem.specs.Costs.{roundedCost, differing}
-use Rattle.modem.specs.Decode.{outcome, Chosen, Decoded}
+use Rattle.modem.specs.Decode.{outcome, Chosen, DecodedList}
+use Rattle.modem.proofs.SizeLaws.{carriers-symbols}
 
--- a mode and a length that are not refused, and the Mode that holds the mode
-pub record SizedPassed (mode N : ℕ) (m : Mode) : Type 0 where
-  pub zero : ladder (sized mode N) ≡ 0
-  pub fit : Fit mode N
-  pub constellation-is : m .constellation ≡ constellationOf mode
-  pub same-mode : number m ≡ mode
-  pub made : Fit (number m) N
+-- the counts of a train
+pub record Tallied (ps : List Pdu) (n symbols sent : ℕ) : Type 0 where
+  pub n-is : n ≡ lengthOf ps
+  pub carriers-is : 48 * symbols ≡ carriersOf ps
+  pub symbols-is : symbols ≡ symbolsOf ps
+  pub sent-is : sent ≡ sentOf ps
 
--- 48 to a symbol
-pub made-carriers : (mode N s : ℕ) → s ≡ symbols mode N → 48 * s ≡ carriers mode N
-unfolding carriers
-made-carriers mode N s e = ap (λ (k : ℕ). 48 * k) e
-
-module _ (mode N : ℕ) (m : Mode) where
-  pub sized-passed : ladder (sized mode N) ≡ 0 → (m .constellation ≡ constellationOf mode) × (m .rate ≡ rateOf mode) → SizedPassed mode N m
-  sized-passed zero (ec, er) =
-      let fit = sized-fit mode N zero in
-      let same : number m ≡ mode = ap₂ numberOf ec er ∙ number-back mode (fit .from-1) (fit .to-7) in
-      record { zero = zero; fit = fit; constellation-is = ec; same-mode = same; made = subst (λ (k : ℕ). Fit k N) (sym same) fit }
-
-  module _ (p : SizedPassed mode N m) where
-    pub sized-sent : sentBits (number m) N ≡ sentBits mode N
-    sized-sent = ap (λ (k : ℕ). sentBits k N) (p .same-mode)
-
-    pub sized-carriers : (s : ℕ) → s ≡ symbols (number m) N → 48 * s ≡ carriers mode N
-    sized-carriers s e = made-carriers mode N s (e ∙ ap (λ (k : ℕ). symbols k N) (p .same-mode))
+-- a list that is not refused, and the Train that holds it
+pub record SizedPassed (ps : List Pdu) (t : Train) : Type 0 where
+  pub zero : ladder (listSized ps) ≡ 0
+  pub list-is : pdusIn t ≡ ps
+  pub made : FitList (pdusIn t)
 
 -- a description that is not refused, and the Train that holds it
-pub record Passed (mode counter N a : ℕ) (t : Train) : Type 0 where
-  pub zero : ladder (described mode counter N a) ≡ 0
-  pub legal : Legal mode counter N a
-  pub holds : Describes mode counter N a t
-  pub same-mode : number (t .mode) ≡ mode
-  pub made : Legal (number (t .mode)) (t .counter) (t .n) (t .a)
+pub record Passed (ps : List Pdu) (counter a : ℕ) (t : Train) : Type 0 where
+  pub zero : ladder (listDescribed ps counter a) ≡ 0
+  pub legal : LegalList ps counter a
+  pub holds : Describes ps counter a t
+  pub made : LegalList (pdusIn t) (t .counter) (t .a)
 
-module _ (mode counter N a : ℕ) (t : Train) where
-  pub passed : ladder (described mode counter N a) ≡ 0 → Describes mode counter N a t → Passed mode counter N a t
-  passed zero holds =
-      let legal = described-legal mode counter N a zero in
-      record {
-        zero = zero;
-        legal = legal;
-        holds = holds;
-        same-mode = number-is mode counter N a t legal holds;
-        made = train-legal mode counter N a t legal holds;
-      }
+pub sized-passed : (ps : List Pdu) (counter a : ℕ) (t : Train) → ladder (listSized ps) ≡ 0 → Describes ps counter a t → SizedPassed ps t
+sized-passed ps counter a t zero holds =
+    record { zero = zero; list-is = holds .list-is; made = subst FitList (sym (holds .list-is)) (list-fit ps zero) }
 
-  module _ (p : Passed mode counter N a t) where
-    pub passed-sent : sentBits (number (t .mode)) (t .n) ≡ sentBits mode N
-    passed-sent = ap₂ sentBits (p .same-mode) (p .holds .n-is)
+pub passed : (ps : List Pdu) (counter a : ℕ) (t : Train) → ladder (listDescribed ps counter a) ≡ 0 → Describes ps counter a t → Passed ps counter a t
+passed ps counter a t zero holds =
+    let legal = list-legal ps counter a zero in
+    record { zero = zero; legal = legal; holds = holds; made = rw (holds .list-is, holds .counter-is, holds .a-is) legal }
 
-    pub passed-symbols : symbols (number (t .mode)) (t .n) ≡ symbols mode N
-    passed-symbols = ap₂ symbols (p .same-mode) (p .holds .n-is)
-
-    pub passed-carriers : (s : ℕ) → s ≡ symbols (number (t .mode)) (t .n) → 48 * s ≡ carriers mode N
-    passed-carriers s e = made-carriers mode N s (e ∙ passed-symbols)
-
-    pub passed-softened : (i q : List ℤ) → softened (number (t .mode)) (t .n) i q ≡ softened mode N i q
-    passed-softened i q = ap₂ (λ (k n : ℕ). softened k n i q) (p .same-mode) (p .holds .n-is)
-
-    -- the sent bits are few
-    pub passed-few : sentBits mode N ≤ 6912
-    passed-few = omega (arith, sent-within mode N (p .legal .fit), p .legal .fit .to-3456)
-
-    -- what was chosen by the Train's fields was chosen by the description
-    pub passed-decoded : (soft soft′ : List ℤ) → soft′ ≡ soft → (octets words octets′ words′ : List ℕ) (s n cost : ℕ) (confirmed : Bool)
-        → s ≡ symbols (number (t .mode)) (t .n) → n ≡ sentBits (number (t .mode)) (t .n)
-        → Chosen (t .counter) (t .n) (roundedCost (number (t .mode)) (t .n) (t .a) soft′) (differing (number (t .mode)) (t .n) (t .a)) octets words cost confirmed octets′ words′
-        → Decoded mode counter N a soft octets words (outcome s n cost confirmed octets′ words′)
-    passed-decoded soft soft′ same octets words octets′ words′ s n cost confirmed es en chosen = record {
-      chosen = rw (p .same-mode, p .holds .counter-is, p .holds .n-is, p .holds .a-is, same) at chosen;
-      all-symbols = es ∙ passed-symbols;
-      all-sent = en ∙ passed-sent;
+-- what was counted of the Train was counted of the list
+pub tallied : (ps : List Pdu) (t : Train) (n symbols sent : ℕ) → pdusIn t ≡ ps
+    → (n ≡ lengthOf (pdusIn t)) × (symbols ≡ symbolsOf (pdusIn t)) × (sent ≡ sentOf (pdusIn t)) → Tallied ps n symbols sent
+tallied ps t n symbols sent same (en, es, eb) =
+    let symbols-is : symbols ≡ symbolsOf ps = es ∙ ap symbolsOf same in
+    record {
+      n-is = en ∙ ap lengthOf same;
+      carriers-is = omega (arith, symbols-is, carriers-symbols ps);
+      symbols-is = symbols-is;
+      sent-is = eb ∙ ap sentOf same;
     }
+
+-- the counts of a fit list are small
+pub tallied-small : (ps : List Pdu) (n symbols sent : ℕ) → FitList ps → Tallied ps n symbols sent → (n ≤ 3456) × (symbols ≤ 144) × (sent ≤ 6912)
+tallied-small ps n symbols sent fit t =
+    let most = fit .to-3456 in (
+      omega (arith, t .n-is, most),
+      omega (arith, t .symbols-is, symbols-of-within ps (fit .each), most),
+      omega (arith, t .sent-is, sent-of-within ps (fit .each), most),
+    )
+
+-- what was sent by the Train's fields was sent by the description
+pub passed-sent : (ps : List Pdu) (counter a : ℕ) (t : Train) → Passed ps counter a t → (octets sent sent′ : List ℕ)
+    → sent′ ≡ filled (sentOf (pdusIn t)) (sentBit (pdusIn t) (t .counter) (t .a) octets) sent
+    → sent′ ≡ filled (sentOf ps) (sentBit ps counter a octets) sent
+passed-sent ps counter a t p octets sent sent′ e = rw (p .holds .list-is, p .holds .counter-is, p .holds .a-is) at e
+
+-- and likewise readings and soft bytes
+pub passed-read : (ps : List Pdu) (t : Train) → SizedPassed ps t → (sent : List ℕ) (i q i′ q′ : List ℤ)
+    → (i′ ≡ filled (carriersOf (pdusIn t)) (listI (pdusIn t) sent) i) × (q′ ≡ filled (carriersOf (pdusIn t)) (listQ (pdusIn t) sent) q)
+    → _≡_ {A = List ℤ × List ℤ} (i′, q′) (filled (carriersOf ps) (listI ps sent) i, filled (carriersOf ps) (listQ ps sent) q)
+passed-read ps t p sent i q i′ q′ e = let (on-i, on-q) = rw (p .list-is) at e in λ k. (on-i k, on-q k)
+
+pub passed-softened : (ps : List Pdu) (t : Train) → SizedPassed ps t → (i q soft soft′ : List ℤ)
+    → soft′ ≡ filled (sentOf (pdusIn t)) (listSoft (pdusIn t) i q) soft → soft′ ≡ filled (sentOf ps) (listSoft ps i q) soft
+passed-softened ps t p i q soft soft′ e = rw (p .list-is) at e
+
+-- what was chosen by the Train's fields was chosen by the description
+pub passed-decoded : (ps : List Pdu) (counter a : ℕ) (t : Train) → Passed ps counter a t
+    → (soft soft′ : List ℤ) → soft′ ≡ soft → (octets words octets′ words′ : List ℕ) (n symbols sent cost : ℕ) (confirmed : Bool)
+    → Tallied ps n symbols sent
+    → Chosen (t .counter) n (roundedCost (pdusIn t) (t .a) soft′) (differing (pdusIn t) (t .a)) octets words cost confirmed octets′ words′
+    → DecodedList ps counter a soft octets words (outcome symbols sent cost confirmed octets′ words′)
+passed-decoded ps counter a t p soft soft′ same octets words octets′ words′ n symbols sent cost confirmed count chosen = record {
+  chosen = rw (p .holds .list-is, p .holds .counter-is, p .holds .a-is, count .n-is, same) at chosen;
+  all-symbols = count .symbols-is;
+  all-sent = count .sent-is;
+}

@@ -5,23 +5,25 @@
 --   trainOf          the train that octets stand for: scrambled
 --   Chosen           what is wanted of a train that is chosen, its cost and its mark
 --   Decoded          the outcome that is wanted
---   softRefusal      the refusals of `decode_soft`, 1 to 9
+--   DecodedList      the same of a list of PDUs
+--   softRefusal      the refusals of `decode_soft`: 11, 1 to 9
 --   DecodeSoft       its answer and outcome
---   readingsRefusal  the refusals of `decode_readings`, 1 to 8
+--   readingsRefusal  the refusals of `decode_readings`: 11, 1 to 8
 --   DecodeReadings   its answer and outcome: that of the soft bytes of the readings
 -- Assumes nothing.
 use mathlib.Core.Path.{_≡_}
 use Prim.Native.Nat.{ℕ, _+_}
 use mathlib.Core.Bool.{Bool, true, false, not}
-use mathlib.Core.List.{List, _++_}
+use mathlib.Core.List.{List, _∷_}
 use lib.Dec.{eqb}
 use lib.IntN.{ℤ}
 use lib.ListN.{length, take, drop}
-use Rattle.laws.specs.Ladder.{ladder}
+use Rattle.laws.specs.Ladder.{given, ladder}
 use Rattle.laws.specs.Lists.{filled}
 use Rattle.laws.specs.Answers.{Leaves}
-use Rattle.modes.specs.Sizes.{symbols, sentBits, octetsOf}
-use Rattle.modes.specs.Refusals.{described}
+use Rattle.modes.specs.Sizes.{octetsOf}
+use Rattle.modes.specs.Pdus.{Pdu, lengthOf, symbolsOf, carriersOf, sentOf}
+use Rattle.modes.specs.Refusals.{listDescribed}
 use Rattle.coder.specs.Scrambler.{scrambled}
 use Rattle.trellis.specs.Wanted.{Returned, Confirmed}
 use Rattle.unique.specs.Sameness.{Octets}
@@ -65,30 +67,36 @@ pub record Chosen (counter N : ℕ) (cost : List ℕ → ℕ) (differing : List 
   pub kept : drop (octetsOf N) octets′ ≡ drop (octetsOf N) octets
   pub zeroed : words′ ≡ filled (N + 6) (λ _. 0) words
 
--- chosen by the rounded cost of the sent bits, all of them heard; and the train's symbols and sent bits
-pub record Decoded (mode counter N a : ℕ) (soft : List ℤ) (octets words : List ℕ) (o : Outcome) : Type 0 where
-  pub chosen : Chosen counter N (roundedCost mode N a soft) (differing mode N a) octets words (o .cost) (o .confirmed) (o .octets) (o .words)
-  pub all-symbols : o .symbols ≡ symbols mode N
-  pub all-sent : o .n ≡ sentBits mode N
+-- chosen by some cost and some count of differing bits; and the train's symbols and sent bits
+pub record Decoded (counter N symbols n : ℕ) (cost : List ℕ → ℕ) (differing : List ℕ → List ℕ → ℕ) (octets words : List ℕ) (o : Outcome) : Type 0 where
+  pub chosen : Chosen counter N cost differing octets words (o .cost) (o .confirmed) (o .octets) (o .words)
+  pub all-symbols : o .symbols ≡ symbols
+  pub all-sent : o .n ≡ n
 
--- refusals 1 to 6, then 7 for the soft bytes, 8, and 9 for a soft byte outside -80 to 80
-unfoldable pub softRefusal : (mode counter N a : ℕ) → List ℤ → (octets words : List ℕ) → ℕ
-softRefusal mode counter N a soft octets words =
+-- a train of a list of PDUs, chosen by the rounded cost of the sent bits, all of them heard
+abbrev pub DecodedList : List Pdu → (counter a : ℕ) → List ℤ → (octets words : List ℕ) → Outcome → Type 0
+DecodedList ps counter a soft = Decoded counter (lengthOf ps) (symbolsOf ps) (sentOf ps) (roundedCost ps a soft) (differing ps a)
+
+-- refusals 11 and 1 to 6, then 7 for the soft bytes, 8, and 9 for a soft byte outside -80 to 80
+unfoldable pub softRefusal : List Pdu → (counter a : ℕ) → List ℤ → (octets words : List ℕ) → ℕ
+softRefusal ps counter a soft octets words =
     ladder
-    (described mode counter N a
-    ++ lent (not (eqb (length soft) (sentBits mode N))) (roomShort N octets words) (not (allSoft soft)))
+    (given (ladder (listDescribed ps counter a))
+    ∷ lent (not (eqb (length soft) (sentOf ps))) (roomShort (lengthOf ps) octets words) (not (allSoft soft)))
 
 -- the answer r and the outcome o of decoding soft bytes
-unfoldable pub DecodeSoft : (mode counter N a : ℕ) → List ℤ → (octets words : List ℕ) → (r : ℕ) → Outcome → Type 0
-DecodeSoft mode counter N a soft octets words =
-    Leaves (softRefusal mode counter N a soft octets words) (Decoded mode counter N a soft octets words) (nothing octets words)
+unfoldable pub DecodeSoft : List Pdu → (counter a : ℕ) → List ℤ → (octets words : List ℕ) → (r : ℕ) → Outcome → Type 0
+DecodeSoft ps counter a soft octets words =
+    Leaves (softRefusal ps counter a soft octets words) (DecodedList ps counter a soft octets words) (nothing octets words)
 
--- refusals 1 to 6, then 7 for the readings of I and of Q, and 8
-unfoldable pub readingsRefusal : (mode counter N a : ℕ) → (i q : List ℤ) → (octets words : List ℕ) → ℕ
-readingsRefusal mode counter N a i q octets words =
-    ladder (described mode counter N a ++ lent (readingsWrong mode N i q) (roomShort N octets words) false)
+-- refusals 11 and 1 to 6, then 7 for the readings of I and of Q, and 8
+unfoldable pub readingsRefusal : List Pdu → (counter a : ℕ) → (i q : List ℤ) → (octets words : List ℕ) → ℕ
+readingsRefusal ps counter a i q octets words =
+    ladder
+    (given (ladder (listDescribed ps counter a))
+    ∷ lent (readingsWrong (carriersOf ps) i q) (roomShort (lengthOf ps) octets words) false)
 
 -- the answer r and the outcome o of decoding readings: their soft bytes are decoded
-unfoldable pub DecodeReadings : (mode counter N a : ℕ) → (i q : List ℤ) → (octets words : List ℕ) → (r : ℕ) → Outcome → Type 0
-DecodeReadings mode counter N a i q octets words =
-    Leaves (readingsRefusal mode counter N a i q octets words) (Decoded mode counter N a (softened mode N i q) octets words) (nothing octets words)
+unfoldable pub DecodeReadings : List Pdu → (counter a : ℕ) → (i q : List ℤ) → (octets words : List ℕ) → (r : ℕ) → Outcome → Type 0
+DecodeReadings ps counter a i q octets words =
+    Leaves (readingsRefusal ps counter a i q octets words) (DecodedList ps counter a (softened ps i q) octets words) (nothing octets words)

@@ -16,12 +16,14 @@ use lib.Ieee.{Float}
 use lib.IntN.{ℤ, pos}
 use lib.ListN.{getD, take, drop}
 use Rattle.modes.specs.Modes.{constellationOf}
-use Rattle.modes.specs.Sizes.{carriers, sentBits, octetsOf}
+use Rattle.modes.specs.Sizes.{octetsOf}
+use Rattle.modes.specs.Pdus.{Pdu, lengthOf, carriersOf, sentOf}
 use Rattle.coder.specs.Train.{Train}
 use Rattle.points.specs.Levels.{levelI, levelQ}
-use Rattle.points.specs.Points.{idealI, idealQ, part}
+use Rattle.points.specs.Points.{part}
 use Rattle.trellis.specs.Wanted.{Returned, Confirmed}
 use Rattle.modem.specs.Encode.{sentBit}
+use Rattle.modem.specs.Ideal.{listI, listQ}
 use Rattle.modem.specs.Soften.{softened}
 use Rattle.modem.specs.Costs.{roundedCost, exactCost, differing}
 use Rattle.modem.specs.Decode.{Outcome, trainOf}
@@ -31,15 +33,15 @@ pub record RefusesAs {B : Type 0} (number : ℕ) (before : B) (r : ℕ) (left : 
   pub which : r ≡ number
   pub leaves : r ≢ 0 → left ≡ before
 
--- sent bit q is the coded bit of the scrambled and tailed train that P1, P2 and the interleaver put there
-pub record SentAs (mode counter N a : ℕ) (octets sent sent′ : List ℕ) : Type 0 where
-  pub bits : (q : ℕ) → q < sentBits mode N → getD sent′ q 0 ≡ sentBit mode counter N a octets q
-  pub kept : drop (sentBits mode N) sent′ ≡ drop (sentBits mode N) sent
+-- sent bit q is the coded bit of the scrambled and tailed train that P1, and P2 and the interleaver of its PDU, put there
+pub record SentAs (ps : List Pdu) (counter a : ℕ) (octets sent sent′ : List ℕ) : Type 0 where
+  pub bits : (q : ℕ) → q < sentOf ps → getD sent′ q 0 ≡ sentBit ps counter a octets q
+  pub kept : drop (sentOf ps) sent′ ≡ drop (sentOf ps) sent
 
 -- on each axis the reading of carrier k is 256 times the level of its group
-pub record ReadAs (mode N : ℕ) (sent : List ℕ) (i′ q′ : List ℤ) : Type 0 where
-  pub on-i : (k : ℕ) → k < carriers mode N → getD i′ k (pos 0) ≡ idealI (constellationOf mode) sent k
-  pub on-q : (k : ℕ) → k < carriers mode N → getD q′ k (pos 0) ≡ idealQ (constellationOf mode) sent k
+pub record ReadAs (ps : List Pdu) (sent : List ℕ) (i′ q′ : List ℤ) : Type 0 where
+  pub on-i : (k : ℕ) → k < carriersOf ps → getD i′ k (pos 0) ≡ listI ps sent k
+  pub on-q : (k : ℕ) → k < carriersOf ps → getD q′ k (pos 0) ≡ listQ ps sent k
 
 -- each part is the level times K by one f32 multiplication
 pub record PointAs (mode group : ℕ) (i q : Float) : Type 0 where
@@ -47,9 +49,9 @@ pub record PointAs (mode group : ℕ) (i q : Float) : Type 0 where
   pub on-q : q ≡ part (constellationOf mode) (levelQ (constellationOf mode) group)
 
 -- the octets stand for the train of N bits that is wanted by these soft bytes, and the cost is that train's
-pub record ReturnedAs (mode counter N a : ℕ) (soft : List ℤ) (o : Outcome) : Type 0 where
-  pub returned : Returned N (roundedCost mode N a soft) (trainOf counter N (o .octets))
-  pub costs : o .cost ≡ roundedCost mode N a soft (trainOf counter N (o .octets))
+pub record ReturnedAs (ps : List Pdu) (counter a : ℕ) (soft : List ℤ) (o : Outcome) : Type 0 where
+  pub returned : Returned (lengthOf ps) (roundedCost ps a soft) (trainOf counter (lengthOf ps) (o .octets))
+  pub costs : o .cost ≡ roundedCost ps a soft (trainOf counter (lengthOf ps) (o .octets))
 
 -- the octets came back, at no cost and confirmed
 pub record GivenBack (N : ℕ) (octets : List ℕ) (r : ℕ) (o : Outcome) : Type 0 where
@@ -61,9 +63,12 @@ pub record GivenBack (N : ℕ) (octets : List ℕ) (r : ℕ) (o : Outcome) : Typ
 -- the exact cost of the returned train exceeds the least exact cost of any train of N bits by at most 32 for each of the n bits heard;
 -- it is marked confirmed exactly when, against every other such train, twice the rounded-cost difference is greater than the number of
 -- heard bits in which the two differ; and a confirmed train is the only one with the least exact cost
-pub record Trusted (mode counter N a : ℕ) (i q : List ℤ) (o : Outcome) : Type 0 where
-  pub near : (v : List ℕ) → Train N v → exactCost mode N a i q (trainOf counter N (o .octets)) ≤ exactCost mode N a i q v + 32 * sentBits mode N
-  pub only-then : o .confirmed ≡ true → Confirmed N (roundedCost mode N a (softened mode N i q)) (differing mode N a) (trainOf counter N (o .octets))
-  pub always-then : Confirmed N (roundedCost mode N a (softened mode N i q)) (differing mode N a) (trainOf counter N (o .octets)) → o .confirmed ≡ true
-  pub alone : o .confirmed ≡ true → (v : List ℕ) → Train N v → v ≢ trainOf counter N (o .octets)
-      → exactCost mode N a i q (trainOf counter N (o .octets)) < exactCost mode N a i q v
+pub record Trusted (ps : List Pdu) (counter a : ℕ) (i q : List ℤ) (o : Outcome) : Type 0 where
+  pub near : (v : List ℕ) → Train (lengthOf ps) v
+      → exactCost ps a i q (trainOf counter (lengthOf ps) (o .octets)) ≤ exactCost ps a i q v + 32 * sentOf ps
+  pub only-then : o .confirmed ≡ true
+      → Confirmed (lengthOf ps) (roundedCost ps a (softened ps i q)) (differing ps a) (trainOf counter (lengthOf ps) (o .octets))
+  pub always-then : Confirmed (lengthOf ps) (roundedCost ps a (softened ps i q)) (differing ps a) (trainOf counter (lengthOf ps) (o .octets))
+      → o .confirmed ≡ true
+  pub alone : o .confirmed ≡ true → (v : List ℕ) → Train (lengthOf ps) v → v ≢ trainOf counter (lengthOf ps) (o .octets)
+      → exactCost ps a i q (trainOf counter (lengthOf ps) (o .octets)) < exactCost ps a i q v

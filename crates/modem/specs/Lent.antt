@@ -1,6 +1,6 @@
--- Refusals 7, 8 and 9: what the slices that are lent to the far end's calls are tested for, in the table's order.
+-- Refusals 7, 8 and 9: what the slices that are lent to a call are tested for, in the table's order.
 --   lent           an input slice of the wrong length, an output or working slice too short, a value out of range
---   readingsWrong  whether the readings of I or of Q are not 48 for each symbol
+--   readingsWrong  whether the readings of I or of Q are not as many as the carriers
 --   roomShort      whether there is too little room for the octets or for the working words
 -- Assumes nothing.
 use Prim.Native.Nat.{ℕ, _+_}
@@ -10,15 +10,15 @@ use lib.Dec.{ltb, eqb}
 use lib.IntN.{ℤ}
 use lib.ListN.{length}
 use Rattle.laws.specs.Ladder.{Rung, _when_}
-use Rattle.modes.specs.Sizes.{carriers, octetsOf}
+use Rattle.modes.specs.Sizes.{octetsOf}
 
 -- 7 for inputs of the wrong length, 8 for too little room, 9 for a value out of range
 abbrev pub lent : (wrong short outside : Bool) → List Rung
 lent wrong short outside = (7 when wrong) ∷ (8 when short) ∷ (9 when outside) ∷ []
 
--- whether the readings of I or of Q are not 48 for each symbol
-abbrev pub readingsWrong : (mode N : ℕ) → (i q : List ℤ) → Bool
-readingsWrong mode N i q = not (eqb (length i) (carriers mode N)) || not (eqb (length q) (carriers mode N))
+-- whether the readings of I or of Q are not as many as the carriers
+abbrev pub readingsWrong : (carriers : ℕ) → (i q : List ℤ) → Bool
+readingsWrong carriers i q = not (eqb (length i) carriers) || not (eqb (length q) carriers)
 
 -- whether there is too little room for the octets or for the working words
 abbrev pub roomShort : ℕ → (octets words : List ℕ) → Bool

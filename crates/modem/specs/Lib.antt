@@ -1,9 +1,11 @@
+pub mod Lent
+pub mod Sent
 pub mod Encode
 pub mod Ideal
 pub mod Point
-pub mod Costs
-pub mod Lent
 pub mod Soften
+pub mod Costs
 pub mod Told
 pub mod Decode
+pub mod OneMode
 pub mod Demands

@@ -7,9 +7,9 @@ ghost use Prim.Native.Nat.{_+_, _*_, _%_, _≤_};
 ghost use lib.Dec.{ltb};
 ghost use lib.ListN.{length};
 ghost use Rattle.laws.specs.Ladder.{ladder};
-ghost use Rattle.modes.specs.Modes.{number};
-ghost use Rattle.modes.specs.Sizes.{sentBits, octetsOf};
-ghost use Rattle.modes.specs.Description.{Legal};
+ghost use Rattle.modes.specs.Sizes.{octetsOf};
+ghost use Rattle.modes.specs.Pdus.{pdusOf, lengthOf, sentOf};
+ghost use Rattle.modes.specs.Description.{LegalList, pdusIn};
 ghost use Rattle.trellis.specs.Heard as trellis;
 ghost use Rattle.search.specs.Bytes.{costOf, heardOf};
 ghost use Rattle.soft.specs.Carriers.{allSoft};
@@ -54,19 +54,21 @@ fn pick(counter: u32, n: usize, heard: &[u8], octets: &mut [u8], words: &mut [u6
 }
 
 // The same by soft bytes, when all has been tested: they go back to their coded bits, and what was not sent is not heard.
-pub(crate) fn find(train: Train, soft: &[i8], octets: &mut [u8], words: &mut [u64]) -> Found
-    requires { ⌜ Legal (number (train .mode)) (train .counter) (train .n) (train .a) ⌝ }
-    requires { ⌜ (length (now soft) ≡ sentBits (number (train .mode)) (train .n)) × (allSoft (now soft) ≡ true) ⌝ }
-    requires { ⌜ (octetsOf (train .n) ≤ length (now octets)) × (train .n + 6 ≤ length (now words)) ⌝ }
-    ensures { λ r. ⌜ Chosen (train .counter) (train .n) (roundedCost (number (train .mode)) (train .n) (train .a) (now (soft .entry))) (differing (number (train .mode)) (train .n) (train .a)) (now (octets .entry)) (now (words .entry)) (r .cost) (r .confirmed) (now (octets .exit)) (now (words .exit)) ⌝ }
+pub(crate) fn find(
+    train: Train,
+    n: usize,
+    soft: &[i8],
+    octets: &mut [u8],
+    words: &mut [u64],
+) -> Found
+    requires { ⌜ LegalList (pdusIn train) (train .counter) (train .a) × (n ≡ lengthOf (pdusIn train)) ⌝ }
+    requires { ⌜ (length (now soft) ≡ sentOf (pdusIn train)) × (allSoft (now soft) ≡ true) ⌝ }
+    requires { ⌜ (octetsOf n ≤ length (now octets)) × (n + 6 ≤ length (now words)) ⌝ }
+    ensures { λ r. ⌜ Chosen (train .counter) n (roundedCost (pdusIn train) (train .a) (now (soft .entry))) (differing (pdusIn train) (train .a)) (now (octets .entry)) (now (words .entry)) (r .cost) (r .confirmed) (now (octets .exit)) (now (words .exit)) ⌝ }
 {
-    let mode = train.mode;
     let counter = train.counter;
-    let n = train.n;
-    let a = train.a;
-    let symbols = modes::symbols_of(mode, n);
     let mut heard = coded_room();
-    places::spread_pdu(mode, symbols, a, 0, soft, &mut heard);
+    places::spread_train(train, soft, &mut heard);
     pick(counter, n, &heard, octets, words)
 }
 
@@ -119,31 +121,33 @@ pub(crate) fn done(symbols: usize, sent: usize, found: Found) -> Answer
     }
 }
 
-// The train of least rounded cost, from n soft bytes: n / 8 octets, with n + 6 working words that are zero afterwards.
+// The train of least rounded cost, from as many soft bytes as it has sent bits: N / 8 octets, with N + 6 working words that are zero
+// afterwards.
 pub fn decode_soft(
-    mode: u32,
+    count: u32,
+    modes: &[u32; 16],
+    lengths: &[u32; 16],
     counter: u32,
-    n: u32,
     a: u32,
     soft: &[i8],
     octets: &mut [u8],
     words: &mut [u64],
 ) -> Answer
-    ensures { λ r. ⌜ DecodeSoft mode counter n a (now (soft .entry)) (now (octets .entry)) (now (words .entry)) (r .refusal) (outcome (r .symbols) (r .n) (r .cost) (r .confirmed) (now (octets .exit)) (now (words .exit))) ⌝ }
+    ensures { λ r. ⌜ DecodeSoft (pdusOf count (now (modes .entry)) (now (lengths .entry))) counter a (now (soft .entry)) (now (octets .entry)) (now (words .entry)) (r .refusal) (outcome (r .symbols) (r .n) (r .cost) (r .confirmed) (now (octets .exit)) (now (words .exit))) ⌝ }
 {
-    let refusal = modes::refusal(mode, counter, n, a);
+    let refusal = modes::refusal(count, modes, lengths, counter, a);
     if refusal != 0 {
         return refused(refusal);
     }
-    let train = modes::train_of(mode, counter, n, a);
-    let sent = modes::sent_bits(train.mode, train.n);
-    let short = room_short(train.n, octets.len(), words.len());
+    let train = modes::train_of(count, modes, lengths, counter, a);
+    let counts = modes::counts_of(train);
+    let n = counts.n;
+    let short = room_short(n, octets.len(), words.len());
     let in_range = soft::soft_ok(soft);
-    let late = lent_refusal(soft.len() != sent, short, !in_range);
+    let late = lent_refusal(soft.len() != counts.sent, short, !in_range);
     if late != 0 {
         return refused(late);
     }
-    let symbols = modes::symbols_of(train.mode, train.n);
-    let found = find(train, soft, octets, words);
-    done(symbols, sent, found)
+    let found = find(train, n, soft, octets, words);
+    done(counts.symbols, counts.sent, found)
 }

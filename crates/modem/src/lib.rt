@@ -1,24 +1,28 @@
-// THE PUBLIC CALLS. Each tests what it is given, answers bad input with the refusal number of document 01, in the table's
-// order, and then leaves every lent buffer as it was. None has a `requires`; the promise of each is one definition of specs/.
-// The far end is in decode.rt and readings.rt.
+// THE PUBLIC CALLS. Each tests what it is given, answers bad input with its refusal number, in the customer's order, and then leaves
+// every lent buffer as it was. None has a `requires`; the promise of each is one definition of specs/. A train is described by the
+// count of its PDUs and their modes and lengths, in arrays of which the entries past the count are not read; by its frame counter; and
+// by a, where P1 begins. The far end is in decode.rt and readings.rt.
 mod decode;
 mod readings;
 
 pub use decode::Answer;
 pub use decode::decode_soft;
+use decode::lent_refusal;
 use modes::Train;
 use points::Point;
 pub use readings::decode_readings;
 pub use readings::soften;
 ghost use mathlib.Core.Path.{_≡_};
+ghost use mathlib.Core.Bool.{_||_};
 ghost use Prim.Native.Nat.{_≤_};
+ghost use lib.Dec.{ltb};
 ghost use lib.ListN.{length, replicate};
 ghost use Rattle.laws.specs.Lists.{filled};
-ghost use Rattle.modes.specs.Modes.{number};
-ghost use Rattle.modes.specs.Sizes.{sentBits, octetsOf};
-ghost use Rattle.modes.specs.Description.{Legal};
+ghost use Rattle.modes.specs.Sizes.{octetsOf};
+ghost use Rattle.modes.specs.Pdus.{pdusOf, lengthOf, carriersOf, sentOf};
+ghost use Rattle.modes.specs.Description.{LegalList, FitList, pdusIn};
 ghost use Rattle.modem.specs.Encode.{sentBit, Encode};
-ghost use Rattle.modem.specs.Ideal.{Ideal};
+ghost use Rattle.modem.specs.Ideal.{listI, listQ, Ideal};
 ghost use Rattle.modem.specs.Point.{plusZero, MapsTo};
 
 // What `mapped` answers: a refusal number, and the point of the group.
@@ -34,65 +38,107 @@ fn coded_room() -> [u8; 6924]
     [0; 6924]
 }
 
-// The sent bits of a train of which all has been tested.
-fn send(train: Train, octets: &[u8], sent: &mut [u8])
-    requires { ⌜ Legal (number (train .mode)) (train .counter) (train .n) (train .a) ⌝ }
-    requires { ⌜ (length (now octets) ≡ octetsOf (train .n)) × (sentBits (number (train .mode)) (train .n) ≤ length (now sent)) ⌝ }
-    ensures { λ _. ⌜ now (sent .exit) ≡ filled (sentBits (number (train .mode)) (train .n)) (sentBit (number (train .mode)) (train .counter) (train .n) (train .a) (now (octets .entry))) (now (sent .entry)) ⌝ }
+// The sent bits of a train of n information bits, when all has been tested.
+fn send(train: Train, n: usize, octets: &[u8], sent: &mut [u8])
+    requires { ⌜ LegalList (pdusIn train) (train .counter) (train .a) × (n ≡ lengthOf (pdusIn train)) ⌝ }
+    requires { ⌜ (length (now octets) ≡ octetsOf n) × (sentOf (pdusIn train) ≤ length (now sent)) ⌝ }
+    ensures { λ _. ⌜ now (sent .exit) ≡ filled (sentOf (pdusIn train)) (sentBit (pdusIn train) (train .counter) (train .a) (now (octets .entry))) (now (sent .entry)) ⌝ }
 {
-    let mode = train.mode;
     let counter = train.counter;
-    let n = train.n;
-    let a = train.a;
-    let symbols = modes::symbols_of(mode, n);
     let mut coded = coded_room();
     coder::code(counter, n, octets, &mut coded);
-    places::send_pdu(mode, symbols, a, 0, &coded, sent);
+    places::send_train(train, &coded, sent);
 }
 
-// The sent bits of a train of n information bits, one to a byte, in the order after the interleaver.
-pub fn encode(mode: u32, counter: u32, n: u32, a: u32, octets: &[u8], sent: &mut [u8]) -> u32
-    ensures { λ r. ⌜ Encode mode counter n a (now (octets .entry)) (now (sent .entry)) r (now (sent .exit)) ⌝ }
+// The sent bits of a train, one to a byte, in the order after the interleaver.
+pub fn encode(
+    count: u32,
+    modes: &[u32; 16],
+    lengths: &[u32; 16],
+    counter: u32,
+    a: u32,
+    octets: &[u8],
+    sent: &mut [u8],
+) -> u32
+    ensures { λ r. ⌜ Encode (pdusOf count (now (modes .entry)) (now (lengths .entry))) counter a (now (octets .entry)) (now (sent .entry)) r (now (sent .exit)) ⌝ }
 {
-    let refusal = modes::refusal(mode, counter, n, a);
+    let refusal = modes::refusal(count, modes, lengths, counter, a);
     if refusal != 0 {
         return refusal;
     }
-    let train = modes::train_of(mode, counter, n, a);
-    if octets.len() != train.n / 8 {
-        return 7;
+    let train = modes::train_of(count, modes, lengths, counter, a);
+    let counts = modes::counts_of(train);
+    let n = counts.n;
+    let late = lent_refusal(octets.len() != n / 8, sent.len() < counts.sent, false);
+    if late != 0 {
+        return late;
     }
-    if sent.len() < modes::sent_bits(train.mode, train.n) {
-        return 8;
-    }
-    send(train, octets, sent);
+    send(train, n, octets, sent);
     0
 }
 
-// The ideal readings of n sent bits, one to a byte: 48 for each symbol on I, and as many on Q.
-pub fn ideal(mode: u32, n: u32, sent: &[u8], i: &mut [i16], q: &mut [i16]) -> u32
-    ensures { λ r. ⌜ Ideal mode n (now (sent .entry)) (now (i .entry)) (now (q .entry)) r (now (i .exit)) (now (q .exit)) ⌝ }
+// Whether there is too little room for the readings of I or of Q.
+fn axes_short(carriers: usize, i: usize, q: usize) -> bool
+    ensures { λ r. ⌜ r ≡ (ltb i carriers || ltb q carriers) ⌝ }
 {
-    let refusal = modes::sized_refusal(mode, n);
+    if i < carriers {
+        return true;
+    }
+    q < carriers
+}
+
+// The ideal readings of a train's sent bits PDU by PDU.
+fn read_train(train: Train, sent: &[u8], i: &mut [i16], q: &mut [i16])
+    requires { ⌜ FitList (pdusIn train) × (sentOf (pdusIn train) ≤ length (now sent)) ⌝ }
+    requires { ⌜ (carriersOf (pdusIn train) ≤ length (now i)) × (carriersOf (pdusIn train) ≤ length (now q)) ⌝ }
+    ensures { λ _. ⌜ (now (i .exit) ≡ filled (carriersOf (pdusIn train)) (listI (pdusIn train) (now (sent .entry))) (now (i .entry))) × (now (q .exit) ≡ filled (carriersOf (pdusIn train)) (listQ (pdusIn train) (now (sent .entry))) (now (q .entry))) ⌝ }
+{
+    let count = train.count;
+    let mut k = 0usize;
+    let mut bits = 0usize;
+    let mut carriers = 0usize;
+    while k < count {
+        let pdu = train.pdus[k];
+        let mode = pdu.mode;
+        let c = mode.constellation;
+        let more = 48 * modes::symbols_of(mode, pdu.n);
+        points::readings(
+            c,
+            more,
+            &sent[bits..],
+            &mut i[carriers..],
+            &mut q[carriers..],
+        );
+        bits += modes::sent_bits(mode, pdu.n);
+        carriers += more;
+        k += 1;
+    }
+}
+
+// The ideal readings of a train's sent bits, one to a byte: 48 for each symbol on I, and as many on Q.
+pub fn ideal(
+    count: u32,
+    modes: &[u32; 16],
+    lengths: &[u32; 16],
+    sent: &[u8],
+    i: &mut [i16],
+    q: &mut [i16],
+) -> u32
+    ensures { λ r. ⌜ Ideal (pdusOf count (now (modes .entry)) (now (lengths .entry))) (now (sent .entry)) (now (i .entry)) (now (q .entry)) r (now (i .exit)) (now (q .exit)) ⌝ }
+{
+    let refusal = modes::sized_refusal(count, modes, lengths);
     if refusal != 0 {
         return refusal;
     }
-    let m = modes::mode_of(mode);
-    let c = m.constellation;
-    if sent.len() != modes::sent_bits(m, n as usize) {
-        return 7;
+    let train = modes::train_of(count, modes, lengths, 0, 0);
+    let counts = modes::counts_of(train);
+    let short = axes_short(48 * counts.symbols, i.len(), q.len());
+    let bits = points::bits_ok(sent);
+    let late = lent_refusal(sent.len() != counts.sent, short, !bits);
+    if late != 0 {
+        return late;
     }
-    let carriers = 48 * modes::symbols_of(m, n as usize);
-    if i.len() < carriers {
-        return 8;
-    }
-    if q.len() < carriers {
-        return 8;
-    }
-    if !points::bits_ok(sent) {
-        return 9;
-    }
-    points::readings(c, carriers, sent, i, q);
+    read_train(train, sent, i, q);
     0
 }
 

@@ -12,11 +12,12 @@ ghost use mathlib.Core.Bool.{not, _||_};
 ghost use Prim.Native.Nat.{_+_, _≤_};
 ghost use lib.Dec.{eqb};
 ghost use lib.ListN.{length};
-ghost use Rattle.modes.specs.Modes.{number};
-ghost use Rattle.modes.specs.Sizes.{carriers, octetsOf};
-ghost use Rattle.modes.specs.Description.{Legal};
+ghost use Rattle.laws.specs.Lists.{filled};
+ghost use Rattle.modes.specs.Sizes.{octetsOf};
+ghost use Rattle.modes.specs.Pdus.{pdusOf, lengthOf, carriersOf, sentOf};
+ghost use Rattle.modes.specs.Description.{FitList, LegalList, pdusIn};
 ghost use Rattle.modem.specs.Costs.{roundedCost, differing};
-ghost use Rattle.modem.specs.Soften.{softened, Soften};
+ghost use Rattle.modem.specs.Soften.{listSoft, softened, Soften};
 ghost use Rattle.modem.specs.Decode.{outcome, Chosen, DecodeReadings};
 
 // Room for the soft bytes of the longest train.
@@ -36,75 +37,102 @@ fn readings_wrong(carriers: usize, i: usize, q: usize) -> bool
     q != carriers
 }
 
-// The n soft bytes of 48 x symbols readings of I and as many of Q.
-pub fn soften(mode: u32, n: u32, i: &[i16], q: &[i16], soft: &mut [i8]) -> u32
-    ensures { λ r. ⌜ Soften mode n (now (i .entry)) (now (q .entry)) (now (soft .entry)) r (now (soft .exit)) ⌝ }
+// The soft bytes of a train's readings PDU by PDU.
+fn soften_train(train: Train, i: &[i16], q: &[i16], soft: &mut [i8])
+    requires { ⌜ FitList (pdusIn train) × (sentOf (pdusIn train) ≤ length (now soft)) ⌝ }
+    requires { ⌜ (carriersOf (pdusIn train) ≤ length (now i)) × (carriersOf (pdusIn train) ≤ length (now q)) ⌝ }
+    ensures { λ _. ⌜ now (soft .exit) ≡ filled (sentOf (pdusIn train)) (listSoft (pdusIn train) (now (i .entry)) (now (q .entry))) (now (soft .entry)) ⌝ }
 {
-    let refusal = modes::sized_refusal(mode, n);
+    let count = train.count;
+    let mut k = 0usize;
+    let mut bits = 0usize;
+    let mut carriers = 0usize;
+    while k < count {
+        let pdu = train.pdus[k];
+        let mode = pdu.mode;
+        let c = mode.constellation;
+        let more = 48 * modes::symbols_of(mode, pdu.n);
+        soft::soften(c, more, &i[carriers..], &q[carriers..], &mut soft[bits..]);
+        bits += modes::sent_bits(mode, pdu.n);
+        carriers += more;
+        k += 1;
+    }
+}
+
+// The soft bytes, one for each sent bit, of 48 x symbols readings of I and as many of Q.
+pub fn soften(
+    count: u32,
+    modes: &[u32; 16],
+    lengths: &[u32; 16],
+    i: &[i16],
+    q: &[i16],
+    soft: &mut [i8],
+) -> u32
+    ensures { λ r. ⌜ Soften (pdusOf count (now (modes .entry)) (now (lengths .entry))) (now (i .entry)) (now (q .entry)) (now (soft .entry)) r (now (soft .exit)) ⌝ }
+{
+    let refusal = modes::sized_refusal(count, modes, lengths);
     if refusal != 0 {
         return refusal;
     }
-    let m = modes::mode_of(mode);
-    let c = m.constellation;
-    let carriers = 48 * modes::symbols_of(m, n as usize);
-    let wrong = readings_wrong(carriers, i.len(), q.len());
-    let short = soft.len() < modes::sent_bits(m, n as usize);
-    let late = lent_refusal(wrong, short, false);
+    let train = modes::train_of(count, modes, lengths, 0, 0);
+    let counts = modes::counts_of(train);
+    let wrong = readings_wrong(48 * counts.symbols, i.len(), q.len());
+    let late = lent_refusal(wrong, soft.len() < counts.sent, false);
     if late != 0 {
         return late;
     }
-    soft::soften(c, carriers, i, q, soft);
+    soften_train(train, i, q, soft);
     0
 }
 
-// The same by readings, when all has been tested: their soft bytes are made, and the train found by these.
+// The train of n bits and so many sent bits by its readings, when all has been tested: their soft bytes are made, and the train found by
+// these.
 fn find_by_readings(
     train: Train,
+    n: usize,
+    sent: usize,
     i: &[i16],
     q: &[i16],
     octets: &mut [u8],
     words: &mut [u64],
 ) -> Found
-    requires { ⌜ Legal (number (train .mode)) (train .counter) (train .n) (train .a) ⌝ }
-    requires { ⌜ (length (now i) ≡ carriers (number (train .mode)) (train .n)) × (length (now q) ≡ carriers (number (train .mode)) (train .n)) ⌝ }
-    requires { ⌜ (octetsOf (train .n) ≤ length (now octets)) × (train .n + 6 ≤ length (now words)) ⌝ }
-    ensures { λ r. ⌜ Chosen (train .counter) (train .n) (roundedCost (number (train .mode)) (train .n) (train .a) (softened (number (train .mode)) (train .n) (now (i .entry)) (now (q .entry)))) (differing (number (train .mode)) (train .n) (train .a)) (now (octets .entry)) (now (words .entry)) (r .cost) (r .confirmed) (now (octets .exit)) (now (words .exit)) ⌝ }
+    requires { ⌜ LegalList (pdusIn train) (train .counter) (train .a) × (n ≡ lengthOf (pdusIn train)) × (sent ≡ sentOf (pdusIn train)) ⌝ }
+    requires { ⌜ (length (now i) ≡ carriersOf (pdusIn train)) × (length (now q) ≡ carriersOf (pdusIn train)) ⌝ }
+    requires { ⌜ (octetsOf n ≤ length (now octets)) × (n + 6 ≤ length (now words)) ⌝ }
+    ensures { λ r. ⌜ Chosen (train .counter) n (roundedCost (pdusIn train) (train .a) (softened (pdusIn train) (now (i .entry)) (now (q .entry)))) (differing (pdusIn train) (train .a)) (now (octets .entry)) (now (words .entry)) (r .cost) (r .confirmed) (now (octets .exit)) (now (words .exit)) ⌝ }
 {
-    let mode = train.mode;
-    let c = mode.constellation;
-    let carriers = 48 * modes::symbols_of(mode, train.n);
-    let sent = modes::sent_bits(mode, train.n);
     let mut soft = soft_room();
-    soft::soften(c, carriers, i, q, &mut soft);
-    find(train, &soft[0..sent], octets, words)
+    soften_train(train, i, q, &mut soft);
+    find(train, n, &soft[0..sent], octets, words)
 }
 
-// The same from 48 x symbols readings of I and as many of Q: their soft bytes are made and decoded.
+// The same as `decode_soft` from 48 x symbols readings of I and as many of Q: their soft bytes are made and decoded.
 pub fn decode_readings(
-    mode: u32,
+    count: u32,
+    modes: &[u32; 16],
+    lengths: &[u32; 16],
     counter: u32,
-    n: u32,
     a: u32,
     i: &[i16],
     q: &[i16],
     octets: &mut [u8],
     words: &mut [u64],
 ) -> Answer
-    ensures { λ r. ⌜ DecodeReadings mode counter n a (now (i .entry)) (now (q .entry)) (now (octets .entry)) (now (words .entry)) (r .refusal) (outcome (r .symbols) (r .n) (r .cost) (r .confirmed) (now (octets .exit)) (now (words .exit))) ⌝ }
+    ensures { λ r. ⌜ DecodeReadings (pdusOf count (now (modes .entry)) (now (lengths .entry))) counter a (now (i .entry)) (now (q .entry)) (now (octets .entry)) (now (words .entry)) (r .refusal) (outcome (r .symbols) (r .n) (r .cost) (r .confirmed) (now (octets .exit)) (now (words .exit))) ⌝ }
 {
-    let refusal = modes::refusal(mode, counter, n, a);
+    let refusal = modes::refusal(count, modes, lengths, counter, a);
     if refusal != 0 {
         return refused(refusal);
     }
-    let train = modes::train_of(mode, counter, n, a);
-    let symbols = modes::symbols_of(train.mode, train.n);
-    let sent = modes::sent_bits(train.mode, train.n);
-    let wrong = readings_wrong(48 * symbols, i.len(), q.len());
-    let short = room_short(train.n, octets.len(), words.len());
+    let train = modes::train_of(count, modes, lengths, counter, a);
+    let counts = modes::counts_of(train);
+    let n = counts.n;
+    let wrong = readings_wrong(48 * counts.symbols, i.len(), q.len());
+    let short = room_short(n, octets.len(), words.len());
     let late = lent_refusal(wrong, short, false);
     if late != 0 {
         return refused(late);
     }
-    let found = find_by_readings(train, i, q, octets, words);
-    done(symbols, sent, found)
+    let found = find_by_readings(train, n, counts.sent, i, q, octets, words);
+    done(counts.symbols, counts.sent, found)
 }

@@ -1,4 +1,6 @@
 pub mod ModeLaws
+pub mod PduLaws
 pub mod RefusalLaws
+pub mod TestLaws
 pub mod SizeLaws
 pub mod DescriptionLaws

@@ -1,17 +1,22 @@
--- Where the ladder of refusals 1 to 6 has come to, and what "not refused" gives.
+-- Where the ladder of refusals has come to, what "not refused" gives, and that a list of one PDU is refused as document 01 says.
 -- Assumes nothing.
-use mathlib.Core.Path.{_≡_, refl, _∙_}
+use mathlib.Core.Path.{_≡_, refl, sym, _∙_, ap}
 use mathlib.Core.Bool.{Bool, true, false, _||_}
 use mathlib.Core.List.{List, [], _∷_, _++_}
-use Prim.Native.Nat.{ℕ, _-_, _%_, _≤_}
+use Prim.Native.Nat.{ℕ, zero, suc, _+_, _-_, _%_, _≤_, _<_}
+use native.Mathlib.Nat.{add-zero}
+use native.Mathlib.Numerals.{add-one}
 use native.Mathlib.Omega.{arith}
-use lib.Dec.{ltb}
+use lib.Dec.{T, ltb}
+use lib.ListN.{length, getD, drop, drop-of-length-le}
+use lib.Seq.{drop-cons}
 use borrow.Author.Tests.{le-ltb, ltb-false, eqb-true, not-false}
-use Rattle.laws.specs.Ladder.{Rung, _when_, ladder}
-use Rattle.laws.proofs.LadderLaws.{ladder-passed, ladder-stops, ladder-goes-on, ladder-idle}
+use Rattle.laws.specs.Ladder.{Rung, _when_, ladder, given}
+use Rattle.laws.proofs.LadderLaws.{numbered, ladder-passed, ladder-stops, ladder-goes-on, ladder-idle, ladder-under, ladder-part, given-stops, given-goes-on, given-passed}
 use Rattle.modes.specs.Modes.{info}
-use Rattle.modes.specs.Refusals.{outside, modeUnknown, placeAbove, lengths, sized, described}
-use Rattle.modes.specs.Description.{Fit, Legal}
+use Rattle.modes.specs.Pdus.{Pdu, one, sumOf, lengthOf}
+use Rattle.modes.specs.Refusals.{outside, modeUnknown, counterAbove, lengthOutside, notOctets, notSymbols, placeAbove, lengths, sized, described, modesTests, listTests, lengthsTests, listSized, listDescribed}
+use Rattle.modes.specs.Description.{Fit, EachFit, FitList, LegalList}
 
 neither : (a b : Bool) → (a || b) ≡ false → (a ≡ false) × (b ≡ false)
 neither true b e = let z : _≡_ {A = ℕ} 0 1 = cc in absurd (omega arith)
@@ -42,25 +47,6 @@ lengths-passed perSymbol N rest h =
       p5 .1,
     )
 
--- the lengths are tested once mode and counter have passed
-described-at-3 : (k counter N a : ℕ) → 1 ≤ k → k ≤ 7 → counter ≤ 15
-    → ladder (described k counter N a) ≡ ladder (lengths (info k) N ++ (6 when placeAbove N a) ∷ [])
-unfolding ladder described
-described-at-3 k counter N a low high c = simp (le-ltb k 1 low, le-ltb 7 k high, le-ltb 15 counter c)
-
--- a refusal of the length is the answer
-pub described-stops : (k counter N a : ℕ) → 1 ≤ k → k ≤ 7 → counter ≤ 15
-    → (ladder (lengths (info k) N) ≡ 0 → ⊥) → ladder (described k counter N a) ≡ ladder (lengths (info k) N)
-described-stops k counter N a low high c h =
-    described-at-3 k counter N a low high c ∙ ladder-stops (lengths (info k) N) _ h
-
--- a length that passes leaves the test of a
-pub described-at-6 : (k counter N a : ℕ) → 1 ≤ k → k ≤ 7 → counter ≤ 15
-    → ladder (lengths (info k) N) ≡ 0 → ladder (described k counter N a) ≡ ladder ((6 when placeAbove N a) ∷ [])
-unfolding lengths
-described-at-6 k counter N a low high c h =
-    described-at-3 k counter N a low high c ∙ ladder-goes-on (lengths (info k) N) _ tt h
-
 fit-of : (k N : ℕ) → outside 1 7 k ≡ false → Lengths (info k) N → Fit k N
 fit-of k N m l =
     record {
@@ -72,36 +58,182 @@ fit-of k N m l =
       whole-symbols = l .symbols;
     }
 
--- a length that passes is 72 or more
-pub lengths-from-72 : (perSymbol N : ℕ) → ladder (lengths perSymbol N) ≡ 0 → 72 ≤ N
-unfolding lengths
-lengths-from-72 perSymbol N h = lengths-passed perSymbol N [] h .0 .inside .0
+-- 1, PDU by PDU: the rungs are numbered, and those before k have passed
+numbered-modes : (ps : List Pdu) → T (numbered (modesTests ps))
+unfolding modesTests
+numbered-modes [] = tt
+numbered-modes (p ∷ ps) = numbered-modes ps
 
-pub described-legal : (k counter N a : ℕ) → ladder (described k counter N a) ≡ 0 → Legal k counter N a
-unfolding described
-described-legal k counter N a h =
-    let p1 = ladder-passed 0 _ _ h in
-    let p2 = ladder-passed 1 _ _ (p1 .1) in
-    let p5 = lengths-passed (info k) N _ (p2 .1) in
-    let p6 = ladder-passed 5 _ _ (p5 .1) in
-    let low : 72 ≤ N = p5 .0 .inside .0 in
+numbered-lengths : (ps : List Pdu) → T (numbered (lengthsTests ps))
+unfolding lengthsTests lengths
+numbered-lengths [] = tt
+numbered-lengths (p ∷ ps) = numbered-lengths ps
+
+module _ (ps : List Pdu) (k : ℕ) (d : Pdu) (h : k < length ps) where
+  pub modes-on : ladder (modesTests ps) ≡ ladder (modesTests (drop k ps)) → modeUnknown (getD ps k d .mode) ≡ false
+      → ladder (modesTests ps) ≡ ladder (modesTests (drop (k + 1) ps))
+  unfolding modesTests ladder
+  modes-on so known = so ∙ rw (add-one k, drop-cons ps k d h, known) refl
+
+  pub modes-stop : ladder (modesTests ps) ≡ ladder (modesTests (drop k ps)) → modeUnknown (getD ps k d .mode) ≡ true → ladder (modesTests ps) ≡ 1
+  unfolding modesTests ladder
+  modes-stop so unknown = so ∙ rw (drop-cons ps k d h, unknown) refl
+
+  pub lengths-on : ladder (lengthsTests ps) ≡ ladder (lengthsTests (drop k ps)) → ladder (lengths (info (getD ps k d .mode)) (getD ps k d .length)) ≡ 0
+      → ladder (lengthsTests ps) ≡ ladder (lengthsTests (drop (k + 1) ps))
+  unfolding lengthsTests lengths
+  lengths-on so passes =
+      so
+      ∙ ap (λ (l : List Pdu). ladder (lengthsTests l)) (drop-cons ps k d h)
+      ∙ ladder-goes-on (lengths (info (getD ps k d .mode)) (getD ps k d .length)) _ tt passes
+      ∙ ap (λ (j : ℕ). ladder (lengthsTests (drop j ps))) (sym (add-one k))
+
+  pub lengths-stop : ladder (lengthsTests ps) ≡ ladder (lengthsTests (drop k ps)) → (ladder (lengths (info (getD ps k d .mode)) (getD ps k d .length)) ≡ 0 → ⊥)
+      → ladder (lengthsTests ps) ≡ ladder (lengths (info (getD ps k d .mode)) (getD ps k d .length))
+  unfolding lengthsTests
+  lengths-stop so refused =
+      so ∙ ap (λ (l : List Pdu). ladder (lengthsTests l)) (drop-cons ps k d h) ∙ ladder-stops (lengths (info (getD ps k d .mode)) (getD ps k d .length)) _ refused
+
+-- past the last PDU nothing is refused
+module _ (ps : List Pdu) (k : ℕ) (h : length ps ≤ k) where
+  pub modes-end : ladder (modesTests ps) ≡ ladder (modesTests (drop k ps)) → ladder (modesTests ps) ≡ 0
+  unfolding modesTests ladder
+  modes-end so = so ∙ rw (drop-of-length-le ps h) refl
+
+  pub lengths-end : ladder (lengthsTests ps) ≡ ladder (lengthsTests (drop k ps)) → ladder (lengthsTests ps) ≡ 0
+  unfolding lengthsTests ladder
+  lengths-end so = so ∙ rw (drop-of-length-le ps h) refl
+
+-- a list of 1 to 16 goes on to its modes
+pub list-inside : (ps : List Pdu) → 1 ≤ length ps → length ps ≤ 16 → ladder (listTests ps) ≡ ladder (modesTests ps)
+unfolding listTests ladder
+list-inside ps low high = simp (le-ltb (length ps) 1 low, le-ltb 16 (length ps) high)
+
+pub list-passed : (ps : List Pdu) → ladder (listTests ps) ≡ 0 → (length ps ≤ 16) × (ladder (modesTests ps) ≡ 0)
+unfolding listTests
+list-passed ps passes =
+    let (count, modes) = ladder-passed 10 _ _ passes in
+    (within 1 16 (length ps) count .1, modes)
+
+-- modes that are not refused are known
+pub known-at : (ps : List Pdu) → ladder (modesTests ps) ≡ 0 → (k : ℕ) (d : Pdu) → k < length ps → (1 ≤ getD ps k d .mode) × (getD ps k d .mode ≤ 7)
+unfolding modesTests
+known-at [] zeros k d h = absurd (omega arith)
+known-at (p ∷ ps) zeros zero d h = within 1 7 (p .mode) (ladder-passed 0 _ _ zeros .0)
+known-at (p ∷ ps) zeros (suc k) d h = known-at ps (ladder-passed 0 _ _ zeros .1) k d (omega arith)
+
+-- and with lengths that are not refused every PDU is fit
+pub each-fit : (ps : List Pdu) → ladder (modesTests ps) ≡ 0 → ladder (lengthsTests ps) ≡ 0 → EachFit ps
+unfolding modesTests lengthsTests EachFit
+each-fit [] modes lens = tt
+each-fit (p ∷ ps) modes lens =
+    let (known, rest) = ladder-passed 0 _ _ modes in
+    let (passes, others) = lengths-passed (info (p .mode)) (p .length) (lengthsTests ps) lens in
+    (fit-of (p .mode) (p .length) known passes, each-fit ps rest others)
+
+-- the whole ladder, with what is tested PDU by PDU as one rung each
+pub described-by : (ps : List Pdu) (counter a : ℕ)
+    → ladder (listDescribed ps counter a)
+    ≡ ladder
+    (given (ladder (listTests ps))
+    ∷ (2 when counterAbove counter)
+    ∷ given (ladder (lengthsTests ps))
+    ∷ (3 when lengthOutside (lengthOf ps))
+    ∷ (6 when placeAbove (lengthOf ps) a)
+    ∷ [])
+unfolding listDescribed listTests
+described-by ps counter a =
+    let last : List Rung = (3 when lengthOutside (lengthOf ps)) ∷ (6 when placeAbove (lengthOf ps) a) ∷ [] in
+    let two : Rung = 2 when counterAbove counter in
+    ladder-part (listTests ps) (two ∷ (lengthsTests ps ++ last)) (numbered-modes ps)
+    ∙ ladder-under (given (ladder (listTests ps))) (two ∷ (lengthsTests ps ++ last)) (two ∷ given (ladder (lengthsTests ps)) ∷ last)
+    (ladder-under two (lengthsTests ps ++ last) (given (ladder (lengthsTests ps)) ∷ last) (ladder-part (lengthsTests ps) last (numbered-lengths ps)))
+
+pub sized-by : (ps : List Pdu)
+    → ladder (listSized ps) ≡ ladder (given (ladder (listTests ps)) ∷ given (ladder (lengthsTests ps)) ∷ (3 when lengthOutside (lengthOf ps)) ∷ [])
+unfolding listSized listTests
+sized-by ps =
+    let last : List Rung = (3 when lengthOutside (lengthOf ps)) ∷ [] in
+    ladder-part (listTests ps) (lengthsTests ps ++ last) (numbered-modes ps)
+    ∙ ladder-under (given (ladder (listTests ps))) (lengthsTests ps ++ last) (given (ladder (lengthsTests ps)) ∷ last)
+    (ladder-part (lengthsTests ps) last (numbered-lengths ps))
+
+-- what a list that passes is
+fit-list : (ps : List Pdu) → ladder (listTests ps) ≡ 0 → ladder (lengthsTests ps) ≡ 0 → lengthOutside (lengthOf ps) ≡ false → FitList ps
+unfolding listTests
+fit-list ps tests lens sum =
+    let (count, modes) = ladder-passed 10 _ _ tests in
+    let (low, high) = within 1 16 (length ps) count in
+    record { from-1 = low; to-16 = high; each = each-fit ps modes lens; to-3456 = within 72 3456 (lengthOf ps) sum .1 }
+
+pub list-fit : (ps : List Pdu) → ladder (listSized ps) ≡ 0 → FitList ps
+list-fit ps h =
+    let (tests, p) = given-passed _ _ (sym (sized-by ps) ∙ h) in
+    let (lens, p) = given-passed _ _ p in
+    fit-list ps tests lens (ladder-passed 2 _ _ p .0)
+
+pub list-legal : (ps : List Pdu) (counter a : ℕ) → ladder (listDescribed ps counter a) ≡ 0 → LegalList ps counter a
+list-legal ps counter a h =
+    let (tests, p) = given-passed _ _ (sym (described-by ps counter a) ∙ h) in
+    let (known, p) = ladder-passed 1 _ _ p in
+    let (lens, p) = given-passed _ _ p in
+    let (sum, p) = ladder-passed 2 _ _ p in
+    let low : 72 ≤ lengthOf ps = within 72 3456 (lengthOf ps) sum .0 in
     record {
-      fit = fit-of k N (p1 .0) (p5 .0);
-      to-15 = ltb-false 15 counter (p2 .0);
-      inside = omega (arith, ltb-false (N - 72) a (p6 .0));
+      fit = fit-list ps tests lens sum;
+      to-15 = ltb-false 15 counter known;
+      inside = omega (arith, ltb-false (lengthOf ps - 72) a (ladder-passed 5 _ _ p .0));
     }
 
-pub sized-fit : (k N : ℕ) → ladder (sized k N) ≡ 0 → Fit k N
-unfolding sized lengths
-sized-fit k N h =
-    let p1 = ladder-passed 0 _ _ h in
-    fit-of k N (p1 .0) (lengths-passed (info k) N [] (p1 .1) .0)
+-- a refusal of the list is the answer, and where there is none the rest decides
+pub described-list : (ps : List Pdu) (counter a r : ℕ) → r ≡ ladder (listTests ps) → (r ≡ 0 → ⊥) → r ≡ ladder (listDescribed ps counter a)
+described-list ps counter a r e h = e ∙ sym (described-by ps counter a ∙ given-stops _ _ (λ z. h (e ∙ z)))
+
+pub described-rest : (ps : List Pdu) (counter a : ℕ) → ladder (listTests ps) ≡ 0
+    → ladder
+    ((2 when counterAbove counter)
+    ∷ given (ladder (lengthsTests ps))
+    ∷ (3 when lengthOutside (lengthOf ps))
+    ∷ (6 when placeAbove (lengthOf ps) a)
+    ∷ [])
+    ≡ ladder (listDescribed ps counter a)
+described-rest ps counter a tests = sym (described-by ps counter a ∙ given-goes-on _ _ tests)
 
 -- with 0 for counter and a, their tests refuse nothing
-pub described-sized : (k N : ℕ) → ladder (described k 0 N 0) ≡ ladder (sized k N)
-unfolding described sized
-described-sized k N = rw (le-ltb (N - 72) 0 (omega arith)) (go (modeUnknown k))
+pub described-sized : (ps : List Pdu) → ladder (listDescribed ps 0 0) ≡ ladder (listSized ps)
+described-sized ps =
+    described-by ps 0 0
+    ∙ rw (le-ltb (lengthOf ps - 72) 0 (omega arith)) (ladder-under _ _ _ (go (given (ladder (lengthsTests ps))) (3 when lengthOutside (lengthOf ps))))
+    ∙ sym (sized-by ps)
   where
-    go : (t : Bool) → ladder ((1 when t) ∷ (2 when false) ∷ lengths (info k) N ++ (6 when false) ∷ []) ≡ ladder ((1 when t) ∷ lengths (info k) N)
-    go true = unfold ladder in refl
-    go false = unfold ladder in ladder-idle (lengths (info k) N) 6
+    go : (x y : Rung) → ladder ((2 when false) ∷ x ∷ y ∷ (6 when false) ∷ []) ≡ ladder (x ∷ y ∷ [])
+    go x y = unfold ladder in ladder-idle (x ∷ y ∷ []) 6
+
+-- a list of one PDU is refused as document 01's description is: its length is tested twice
+one-again : (m c l o s p : Bool)
+    → ladder ((11 when false) ∷ (1 when m) ∷ (2 when c) ∷ (3 when l) ∷ (4 when o) ∷ (5 when s) ∷ (3 when l) ∷ (6 when p) ∷ [])
+    ≡ ladder ((1 when m) ∷ (2 when c) ∷ (3 when l) ∷ (4 when o) ∷ (5 when s) ∷ (6 when p) ∷ [])
+unfolding ladder
+one-again true c l o s p = refl
+one-again false true l o s p = refl
+one-again false false true o s p = refl
+one-again false false false true s p = refl
+one-again false false false false true p = refl
+one-again false false false false false p = refl
+
+pub one-described : (mode counter N a : ℕ) → ladder (listDescribed (one mode N) counter a) ≡ ladder (described mode counter N a)
+unfolding listDescribed listTests modesTests lengthsTests lengths described sumOf
+one-described mode counter N a = rw (add-zero N) (one-again (modeUnknown mode) (counterAbove counter) (lengthOutside N) (notOctets N) (notSymbols (info mode) N) (placeAbove N a))
+
+pub one-sized : (mode N : ℕ) → ladder (listSized (one mode N)) ≡ ladder (sized mode N)
+unfolding listSized listTests modesTests lengthsTests lengths sized sumOf
+one-sized mode N = rw (add-zero N) (go (modeUnknown mode) (lengthOutside N) (notOctets N) (notSymbols (info mode) N))
+  where
+    go : (m l o s : Bool)
+        → ladder ((11 when false) ∷ (1 when m) ∷ (3 when l) ∷ (4 when o) ∷ (5 when s) ∷ (3 when l) ∷ [])
+        ≡ ladder ((1 when m) ∷ (3 when l) ∷ (4 when o) ∷ (5 when s) ∷ [])
+    go true l o s = unfold ladder in refl
+    go false true o s = unfold ladder in refl
+    go false false true s = unfold ladder in refl
+    go false false false true = unfold ladder in refl
+    go false false false false = unfold ladder in refl

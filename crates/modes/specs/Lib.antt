@@ -1,4 +1,5 @@
 pub mod Modes
 pub mod Sizes
+pub mod Pdus
 pub mod Refusals
 pub mod Description

@@ -1,14 +1,22 @@
--- Refusals 1 to 6, in the words and the order of document 01's table. A call that has no counter or no a skips its test.
+-- Refusals 1 to 6, in the words and the order of document 01's table, and 11 with these of a list of PDUs. A call that has no counter or no a
+-- skips its test.
 --   lengths     3, 4, 5: what a length is tested for
---   sized       1, 3, 4, 5: what a mode and a length are tested for
---   described   1 to 6: what a whole description is tested for
+--   sized       1, 3, 4, 5: what document 01's mode and length are tested for
+--   described   1 to 6: what document 01's description is tested for
+--   modesTests      1, PDU by PDU
+--   listTests       11, and 1 PDU by PDU
+--   lengthsTests    3, 4 and 5, PDU by PDU
+--   listSized       11, 1, 3, 4, 5, and 3 on the sum: what a list is tested for
+--   listDescribed   11, 1, 2, 3, 4, 5, and 3 and 6 on the sum: what a list, a counter and a are tested for
 -- Assumes nothing.
 use Prim.Native.Nat.{ℕ, _-_, _%_}
 use mathlib.Core.Bool.{Bool, not, _||_}
 use mathlib.Core.List.{List, [], _∷_, _++_}
 use lib.Dec.{ltb, eqb}
+use lib.ListN.{length}
 use Rattle.laws.specs.Ladder.{Rung, _when_}
 use Rattle.modes.specs.Modes.{info}
+use Rattle.modes.specs.Pdus.{Pdu, lengthOf}
 
 -- a number below the first of two or above the second
 abbrev pub outside : ℕ → ℕ → ℕ → Bool
@@ -52,3 +60,32 @@ described k counter N a =
     (1 when modeUnknown k)
     ∷ (2 when counterAbove counter)
     ∷ lengths (info k) N ++ (6 when placeAbove N a) ∷ []
+
+-- list empty or above 16
+abbrev pub listOutside : List Pdu → Bool
+listOutside ps = outside 1 16 (length ps)
+
+-- 1 for each PDU
+unfoldable pub modesTests : List Pdu → List Rung
+modesTests [] = []
+modesTests (p ∷ ps) = (1 when modeUnknown (p .mode)) ∷ modesTests ps
+
+-- 11, and then 1 for each PDU
+unfoldable pub listTests : List Pdu → List Rung
+listTests ps = (11 when listOutside ps) ∷ modesTests ps
+
+-- 3, 4 and 5 PDU by PDU, each on its own length
+unfoldable pub lengthsTests : List Pdu → List Rung
+lengthsTests [] = []
+lengthsTests (p ∷ ps) = lengths (info (p .mode)) (p .length) ++ lengthsTests ps
+
+-- what a list is tested for
+unfoldable pub listSized : List Pdu → List Rung
+listSized ps = listTests ps ++ (lengthsTests ps ++ (3 when lengthOutside (lengthOf ps)) ∷ [])
+
+-- what a list, a counter and a are tested for
+unfoldable pub listDescribed : List Pdu → (counter a : ℕ) → List Rung
+listDescribed ps counter a =
+    listTests ps
+    ++ ((2 when counterAbove counter)
+    ∷ (lengthsTests ps ++ (3 when lengthOutside (lengthOf ps)) ∷ (6 when placeAbove (lengthOf ps) a) ∷ []))

@@ -1,15 +1,19 @@
-// The modes of document 01 (000, table 1), the description of a train, its sizes, and (refusals.rt) the refusals 1 to 6.
-// The numbers of a call are tested here, in the table's order; what has passed is a Train, whose mode is two enums.
-// Lengths of slices, and what stands in them, are tested by the calls.
+// The modes of document 01 (000, table 1), the description of a train as a list of PDUs, its sizes (list.rt), and (refusals.rt) the
+// refusals 11 and 1 to 6. The numbers of a call are tested here, in the customer's order; what has passed is a Train, which holds the
+// PDUs with their modes. Lengths of slices, and what stands in them, are tested by the calls.
+mod list;
+mod order;
 mod refusals;
 
+pub use list::counts_of;
+pub use list::train_of;
 pub use refusals::refusal;
 pub use refusals::sized_refusal;
 ghost use mathlib.Core.Path.{_≡_};
 ghost use Prim.Native.Nat.{_*_, _≤_, _/_};
 ghost use Rattle.modes.specs.Modes.{constellationOf, rateOf, bitsOf, infoOf, number};
 ghost use Rattle.modes.specs.Sizes.{symbols, sentBits};
-ghost use Rattle.modes.specs.Description.{Fit, Describes};
+ghost use Rattle.modes.specs.Description.{Fit};
 
 pub enum Constellation {
     Bpsk,
@@ -29,12 +33,24 @@ pub struct Mode {
     pub rate: Rate,
 }
 
-// A train's description: what has to be known of it besides its octets.
-pub struct Train {
+pub struct Pdu {
     pub mode: Mode,
-    pub counter: u32,
     pub n: usize,
+}
+
+// What has to be known of a train besides its octets. Only the first `count` PDUs are meant.
+pub struct Train {
+    pub pdus: [Pdu; 16],
+    pub count: usize,
+    pub counter: u32,
     pub a: usize,
+}
+
+// A train's information bits, symbols and sent bits, over all its PDUs.
+pub struct Counts {
+    pub n: usize,
+    pub symbols: usize,
+    pub sent: usize,
 }
 
 // The mode of a number. A number that is no mode's gives a pair that is no mode.
@@ -101,7 +117,7 @@ fn info_per_symbol(m: Mode) -> u32
     }
 }
 
-// The symbols of a train of n bits.
+// The symbols of a PDU of n bits.
 pub fn symbols_of(m: Mode, n: usize) -> usize
     requires { ⌜ Fit (number m) n ⌝ }
     ensures { λ r. ⌜ (r ≡ symbols (number m) n) × (r ≤ 144) ⌝ }
@@ -109,7 +125,7 @@ pub fn symbols_of(m: Mode, n: usize) -> usize
     n / (info_per_symbol(m) as usize)
 }
 
-// Document 01's n: the sent bits of a train of n bits.
+// The sent bits of a PDU of n bits.
 pub fn sent_bits(m: Mode, n: usize) -> usize
     requires { ⌜ Fit (number m) n ⌝ }
     ensures { λ r. ⌜ r ≡ sentBits (number m) n ⌝ }
@@ -117,16 +133,4 @@ pub fn sent_bits(m: Mode, n: usize) -> usize
     let c = m.constellation;
     let per_symbol = 48 * bits_per_carrier(c);
     symbols_of(m, n) * (per_symbol as usize)
-}
-
-// The description of numbers that were not refused.
-pub fn train_of(mode: u32, counter: u32, n: u32, a: u32) -> Train
-    ensures { λ r. ⌜ Describes mode counter n a r ⌝ }
-{
-    Train {
-        mode: mode_of(mode),
-        counter,
-        n: n as usize,
-        a: a as usize,
-    }
 }

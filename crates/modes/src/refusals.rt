@@ -1,11 +1,14 @@
-// Refusals 1 to 6, in the order of document 01's table: what a description is tested for before anything else.
+// What a description is tested for before anything else: refusal 11, and then 1 to 6, in the customer's order.
 use crate::info_per_symbol;
 use crate::mode_of;
+use crate::order::first_refusal;
 ghost use mathlib.Core.Path.{_≡_};
-ghost use Prim.Native.Nat.{_<_, _≤_};
+ghost use mathlib.Core.List.{List};
+ghost use Prim.Native.Nat.{ℕ, _<_, _≤_};
 ghost use Rattle.laws.specs.Ladder.{ladder};
 ghost use Rattle.modes.specs.Modes.{info};
-ghost use Rattle.modes.specs.Refusals.{lengths, sized, described};
+ghost use Rattle.modes.specs.Pdus.{pdusOf, lengthOf};
+ghost use Rattle.modes.specs.Refusals.{lengthOutside, placeAbove, lengths, modesTests, lengthsTests, listTests, listSized, listDescribed};
 
 // Table 1's last column.
 fn info_of(mode: u32) -> u32
@@ -35,29 +38,105 @@ fn length_refusal(info: u32, n: u32) -> u32
     0
 }
 
-// Refusals 1 to 6: what a whole description is tested for.
-pub fn refusal(mode: u32, counter: u32, n: u32, a: u32) -> u32
-    ensures { λ r. ⌜ r ≡ ladder (described mode counter n a) ⌝ }
+// Refusal 11, and then 1 for each PDU.
+fn list_refusal(count: u32, modes: &[u32; 16]) -> u32
+    ensures { λ r. ⌜ ((whatever : List ℕ) → r ≡ ladder (listTests (pdusOf count (now (modes .entry)) whatever))) ⌝ }
 {
-    if mode < 1 {
-        return 1;
+    if count < 1 {
+        return 11;
     }
-    if 7 < mode {
-        return 1;
+    if 16 < count {
+        return 11;
     }
-    if 15 < counter {
-        return 2;
+    let count = count as usize;
+    let mut k = 0usize;
+    while k < count {
+        let mode = modes[k];
+        if mode < 1 {
+            return 1;
+        }
+        if 7 < mode {
+            return 1;
+        }
+        k += 1;
     }
-    let r = length_refusal(info_of(mode), n);
-    if r != 0 {
-        return r;
-    }
-    if n - 72 < a { 6 } else { 0 }
+    0
 }
 
-// Refusals 1, 3, 4 and 5: a call that has no counter and no a. With 0 for these, their tests refuse nothing.
-pub fn sized_refusal(mode: u32, n: u32) -> u32
-    ensures { λ r. ⌜ r ≡ ladder (sized mode n) ⌝ }
+// Refusals 3, 4 and 5 PDU by PDU, of which the modes are known.
+fn lengths_refusal(count: usize, modes: &[u32; 16], lengths: &[u32; 16]) -> u32
+    requires { ⌜ (count ≤ 16) × (ladder (modesTests (pdusOf count (now modes) (now lengths))) ≡ 0) ⌝ }
+    ensures { λ r. ⌜ r ≡ ladder (lengthsTests (pdusOf count (now (modes .entry)) (now (lengths .entry)))) ⌝ }
 {
-    refusal(mode, 0, n, 0)
+    let mut k = 0usize;
+    while k < count {
+        let refusal = length_refusal(info_of(modes[k]), lengths[k]);
+        if refusal != 0 {
+            return refusal;
+        }
+        k += 1;
+    }
+    0
+}
+
+fn wide(n: u32) -> usize
+    ensures { λ r. ⌜ (r ≡ n) × (r ≤ 4294967295) ⌝ }
+{
+    n as usize
+}
+
+// The information bits of all PDUs. No test has to come first: the sum of sixteen 32-bit numbers is one of 64 bits.
+fn total_length(count: usize, lengths: &[u32; 16]) -> usize
+    requires { ⌜ count ≤ 16 ⌝ }
+    ensures { λ r. ⌜ ((whatever : List ℕ) → r ≡ lengthOf (pdusOf count whatever (now (lengths .entry)))) ⌝ }
+{
+    let mut n = 0usize;
+    let mut k = 0usize;
+    while k < count {
+        n += wide(lengths[k]);
+        k += 1;
+    }
+    n
+}
+
+// Whether the sum lies outside a train's lengths.
+fn sum_outside(sum: usize) -> bool
+    ensures { λ r. ⌜ r ≡ lengthOutside sum ⌝ }
+{
+    if sum < 72 {
+        return true;
+    }
+    3456 < sum
+}
+
+// Whether P1 would begin too late.
+fn place_above(sum: usize, a: u32) -> bool
+    ensures { λ r. ⌜ r ≡ placeAbove sum a ⌝ }
+{
+    if sum < 72 {
+        return 0 < a;
+    }
+    sum - 72 < a as usize
+}
+
+// What a list of PDUs, a counter and a are tested for.
+pub fn refusal(count: u32, modes: &[u32; 16], lengths: &[u32; 16], counter: u32, a: u32) -> u32
+    ensures { λ r. ⌜ r ≡ ladder (listDescribed (pdusOf count (now (modes .entry)) (now (lengths .entry))) counter a) ⌝ }
+{
+    let list = list_refusal(count, modes);
+    if list != 0 {
+        return list;
+    }
+    let each = lengths_refusal(count as usize, modes, lengths);
+    let sum = total_length(count as usize, lengths);
+    let outside = sum_outside(sum);
+    let above = place_above(sum, a);
+    first_refusal(15 < counter, each, outside, above)
+}
+
+// The same in a call that has no counter and no a. With 0 for these, their tests refuse nothing.
+pub fn sized_refusal(count: u32, modes: &[u32; 16], lengths: &[u32; 16]) -> u32
+    ensures { λ r. ⌜ r ≡ ladder (listSized (pdusOf count (now (modes .entry)) (now (lengths .entry)))) ⌝ }
+{
+    refusal(count, modes, lengths, 0, 0)
 }

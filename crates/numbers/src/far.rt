@@ -8,18 +8,20 @@ use shown::MARK_SOFT;
 use shown::MARK_WORD;
 use words::Description;
 use words::Field;
+use words::Pdus;
 
-fn show_soften(mode: u32, n: u32, i: &[i16], q: &[i16], soft: &mut [i8]) {
-    let refusal = modem::soften(mode, n, i, q, soft);
+fn show_soften(pdus: Pdus, i: &[i16], q: &[i16], soft: &mut [i8]) {
+    let modes = pdus.modes;
+    let lengths = pdus.lengths;
+    let refusal = modem::soften(pdus.count, &modes, &lengths, i, q, soft);
     io::print_decimal(STDOUT_FILENO, refusal as u64);
     shown::soft_bytes(soft);
 }
 
 fn soften(text: &[u8], f: Field) -> Field {
-    let mode = words::number(text, f);
-    let n = words::number(text, mode);
+    let pdus = words::pdus_of(text, f);
     let mut i = [0i16; 7000];
-    let given_i = signed::readings(text, n, &mut i);
+    let given_i = signed::readings(text, pdus.last, &mut i);
     let mut q = [0i16; 7000];
     let given_q = signed::readings(text, given_i, &mut q);
     let room = words::room(text, given_q);
@@ -30,18 +32,25 @@ fn soften(text: &[u8], f: Field) -> Field {
     let many_q = given_q.value;
     let size = room.value;
     let mut soft = [MARK_SOFT; 7000];
-    show_soften(
-        mode.value as u32,
-        n.value as u32,
-        &i[0..many_i],
-        &q[0..many_q],
-        &mut soft[0..size],
-    );
+    show_soften(pdus, &i[0..many_i], &q[0..many_q], &mut soft[0..size]);
     room
 }
 
 fn show_decode_soft(d: Description, soft: &[i8], octets: &mut [u8], words: &mut [u64]) {
-    shown::answer(modem::decode_soft(d.mode, d.counter, d.n, d.a, soft, octets, words));
+    let pdus = d.pdus;
+    let modes = pdus.modes;
+    let lengths = pdus.lengths;
+    let answer = modem::decode_soft(
+        pdus.count,
+        &modes,
+        &lengths,
+        d.counter,
+        d.a,
+        soft,
+        octets,
+        words,
+    );
+    shown::answer(answer);
     shown::octets(octets);
     shown::words(words);
 }
@@ -76,7 +85,21 @@ fn show_decode_readings(
     octets: &mut [u8],
     words: &mut [u64],
 ) {
-    shown::answer(modem::decode_readings(d.mode, d.counter, d.n, d.a, i, q, octets, words));
+    let pdus = d.pdus;
+    let modes = pdus.modes;
+    let lengths = pdus.lengths;
+    let answer = modem::decode_readings(
+        pdus.count,
+        &modes,
+        &lengths,
+        d.counter,
+        d.a,
+        i,
+        q,
+        octets,
+        words,
+    );
+    shown::answer(answer);
     shown::octets(octets);
     shown::words(words);
 }

@@ -1,18 +1,20 @@
 // Runs the public calls of `modem` on what standard input asks for and prints what they answer, a line for each.
 //
-//     encode MODE COUNTER N A OCTETS ROOM       refusal, sent bits
-//     ideal MODE N SENT ROOM-I ROOM-Q           refusal, i, readings, q, readings
-//     mapped MODE GROUP                         refusal, the bits of the two f32 parts in hexadecimal
-//     soften MODE N I Q ROOM                    refusal, soft bytes
-//     decode_soft MODE COUNTER N A SOFT ROOM-OCTETS ROOM-WORDS
-//     decode_readings MODE COUNTER N A I Q ROOM-OCTETS ROOM-WORDS
-//                                               refusal, symbols, n, cost, mark (C D -), octets in hexadecimal, how many words
-//                                               at the front are zero, and where those end that are then as they were
+//     encode COUNT MODES LENGTHS COUNTER A OCTETS ROOM   refusal, sent bits
+//     ideal COUNT MODES LENGTHS SENT ROOM-I ROOM-Q       refusal, i, readings, q, readings
+//     mapped MODE GROUP                                  refusal, the bits of the two f32 parts in hexadecimal
+//     soften COUNT MODES LENGTHS I Q ROOM                refusal, soft bytes
+//     decode_soft COUNT MODES LENGTHS COUNTER A SOFT ROOM-OCTETS ROOM-WORDS
+//     decode_readings COUNT MODES LENGTHS COUNTER A I Q ROOM-OCTETS ROOM-WORDS
+//                                                        refusal, symbols, n, cost, mark (C D -), octets in hexadecimal,
+//                                                        how many words at the front are zero, and where those end that
+//                                                        are then as they were
 //
-// OCTETS, SENT and SOFT are bytes in hexadecimal, I and Q readings of four digits, `-` for none; signed numbers in two's
-// complement. ROOM is how many elements are lent for the answer; all of them are printed, 7 where the call wrote nothing, or 100
-// for a soft byte. The run ends at the first line that is none of these. host/reference.py makes the input and, from the
-// documents, the output that is expected.
+// MODES and LENGTHS are decimal numbers with commas and no blanks between them, at most sixteen; an entry that is not written
+// is lent as 0. OCTETS, SENT and SOFT are bytes in hexadecimal, I and Q readings of four digits, `-` for none; signed numbers
+// in two's complement. ROOM is how many elements are lent for the answer; all of them are printed, 7 where the call wrote
+// nothing, or 100 for a soft byte. The run ends at the first line that is none of these. host/reference.py makes the input and,
+// from the documents, the output that is expected.
 mod bytes;
 mod far;
 mod shown;
@@ -25,11 +27,15 @@ use shown::MARK;
 use shown::MARK_READING;
 use words::Description;
 use words::Field;
+use words::Pdus;
 ghost use mathlib.Core.Path.{_≡_};
 ghost use lib.ListN.{length};
 
 fn show_encode(d: Description, octets: &[u8], sent: &mut [u8]) {
-    let refusal = modem::encode(d.mode, d.counter, d.n, d.a, octets, sent);
+    let pdus = d.pdus;
+    let modes = pdus.modes;
+    let lengths = pdus.lengths;
+    let refusal = modem::encode(pdus.count, &modes, &lengths, d.counter, d.a, octets, sent);
     io::print_decimal(STDOUT_FILENO, refusal as u64);
     shown::bits(sent);
 }
@@ -49,8 +55,10 @@ fn encode(text: &[u8], f: Field) -> Field {
     room
 }
 
-fn show_ideal(mode: u32, n: u32, sent: &[u8], i: &mut [i16], q: &mut [i16]) {
-    let refusal = modem::ideal(mode, n, sent, i, q);
+fn show_ideal(pdus: Pdus, sent: &[u8], i: &mut [i16], q: &mut [i16]) {
+    let modes = pdus.modes;
+    let lengths = pdus.lengths;
+    let refusal = modem::ideal(pdus.count, &modes, &lengths, sent, i, q);
     io::print_decimal(STDOUT_FILENO, refusal as u64);
     io::write_all(STDOUT_FILENO, b" i");
     shown::readings(i);
@@ -59,10 +67,9 @@ fn show_ideal(mode: u32, n: u32, sent: &[u8], i: &mut [i16], q: &mut [i16]) {
 }
 
 fn ideal(text: &[u8], f: Field) -> Field {
-    let mode = words::number(text, f);
-    let n = words::number(text, mode);
+    let pdus = words::pdus_of(text, f);
     let mut sent = bytes::room();
-    let given = bytes::list(text, n, &mut sent);
+    let given = bytes::list(text, pdus.last, &mut sent);
     let room_i = words::room(text, given);
     let room_q = words::room(text, room_i);
     if !room_q.good {
@@ -73,13 +80,7 @@ fn ideal(text: &[u8], f: Field) -> Field {
     let size_q = room_q.value;
     let mut i = [MARK_READING; 7000];
     let mut q = [MARK_READING; 7000];
-    show_ideal(
-        mode.value as u32,
-        n.value as u32,
-        &sent[0..many],
-        &mut i[0..size_i],
-        &mut q[0..size_q],
-    );
+    show_ideal(pdus, &sent[0..many], &mut i[0..size_i], &mut q[0..size_q]);
     room_q
 }
 

@@ -1,4 +1,5 @@
-// The words of the input, which blanks and line ends part from each other, and the numbers that they write.
+// The words of the input, which blanks and line ends part from each other, and the numbers that they write: one or, with
+// commas between them, up to sixteen.
 ghost use Prim.Native.Nat.{_<_, _≤_};
 
 // One more than the largest number that a word may write.
@@ -15,11 +16,24 @@ pub(crate) struct Field {
     pub(crate) good: bool,
 }
 
+// The numbers that a word lists, 0 where none is written, and the field of the last.
+struct List {
+    numbers: [u32; 16],
+    last: Field,
+}
+
+// A train's PDUs as the calls take them, and the last of their fields.
+pub(crate) struct Pdus {
+    pub(crate) count: u32,
+    pub(crate) modes: [u32; 16],
+    pub(crate) lengths: [u32; 16],
+    pub(crate) last: Field,
+}
+
 // A train's description, and the last of its fields.
 pub(crate) struct Description {
-    pub(crate) mode: u32,
+    pub(crate) pdus: Pdus,
     pub(crate) counter: u32,
-    pub(crate) n: u32,
     pub(crate) a: u32,
     pub(crate) last: Field,
 }
@@ -79,30 +93,26 @@ fn appended(value: u64, byte: u8) -> u64 {
     value * 10 + (byte - b'0') as u64
 }
 
-fn decimal(digits: &[u8]) -> u64 {
-    if digits.len() == 0 {
-        return LIMIT;
-    }
-    let mut value: u64 = 0;
-    let mut i = 0;
-    while i < digits.len() {
-        value = appended(value, digits[i]);
-        i += 1;
-    }
-    value
-}
-
-// The number in the word after the field `f`.
-pub(crate) fn number(text: &[u8], f: Field) -> Field
+// The number that the digits from `start` on write, and the place of the comma or the end that it stops at; not good where
+// they write none.
+fn decimal(digits: &[u8], start: usize) -> Field
     ensures { λ r. ⌜ r .value < 4294967296 ⌝ }
 {
-    let value = decimal(word(text, f.at));
-    let at = after(text, f.at);
+    let mut value: u64 = 0;
+    let mut at = start;
+    while at < digits.len() {
+        let byte = digits[at];
+        if byte == b',' {
+            break;
+        }
+        value = appended(value, byte);
+        at += 1;
+    }
     if value < LIMIT {
         Field {
             value: value as usize,
             at,
-            good: f.good,
+            good: at > start,
         }
     } else {
         Field {
@@ -110,6 +120,48 @@ pub(crate) fn number(text: &[u8], f: Field) -> Field
             at,
             good: false,
         }
+    }
+}
+
+// The number in the word after the field `f`.
+pub(crate) fn number(text: &[u8], f: Field) -> Field
+    ensures { λ r. ⌜ r .value < 4294967296 ⌝ }
+{
+    let digits = word(text, f.at);
+    let n = decimal(digits, 0);
+    Field {
+        value: n.value,
+        at: after(text, f.at),
+        good: f.good && n.good && n.at == digits.len(),
+    }
+}
+
+// The numbers in the word after the field `f`; more than sixteen are not good.
+fn listed(text: &[u8], f: Field) -> List {
+    let written = word(text, f.at);
+    let mut numbers = [0u32; 16];
+    let mut start = 0;
+    let mut k = 0;
+    while k < 16 {
+        let n = decimal(written, start);
+        if !n.good {
+            break;
+        }
+        numbers[k] = n.value as u32;
+        if n.at >= written.len() {
+            let last = Field {
+                value: n.value,
+                at: after(text, f.at),
+                good: f.good,
+            };
+            return List { numbers, last };
+        }
+        start = n.at + 1;
+        k += 1;
+    }
+    List {
+        numbers,
+        last: failed(),
     }
 }
 
@@ -124,16 +176,30 @@ pub(crate) fn room(text: &[u8], f: Field) -> Field
     size
 }
 
-// The four numbers in the words after the field `f`.
+// The PDUs in the three words after the field `f`: how many, their modes and their lengths.
+pub(crate) fn pdus_of(text: &[u8], f: Field) -> Pdus {
+    let count = number(text, f);
+    let of_modes = listed(text, count);
+    let of_lengths = listed(text, of_modes.last);
+    let modes = of_modes.numbers;
+    let lengths = of_lengths.numbers;
+    let last = of_lengths.last;
+    Pdus {
+        count: count.value as u32,
+        modes,
+        lengths,
+        last,
+    }
+}
+
+// The description in the five words after the field `f`.
 pub(crate) fn described(text: &[u8], f: Field) -> Description {
-    let mode = number(text, f);
-    let counter = number(text, mode);
-    let n = number(text, counter);
-    let a = number(text, n);
+    let pdus = pdus_of(text, f);
+    let counter = number(text, pdus.last);
+    let a = number(text, counter);
     Description {
-        mode: mode.value as u32,
+        pdus,
         counter: counter.value as u32,
-        n: n.value as u32,
         a: a.value as u32,
         last: a,
     }

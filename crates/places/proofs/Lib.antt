@@ -8,3 +8,4 @@ pub mod SendLaws
 pub mod SourceLaws
 pub mod CountedLaws
 pub mod SpreadLaws
+pub mod ListedLaws

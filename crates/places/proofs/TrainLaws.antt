@@ -1,23 +1,25 @@
 -- How many bits P1, P2, the interleaver and whole trains take and give, and that a list of one PDU is document 01's train.
 -- Assumes nothing.
-use mathlib.Core.Path.{_≡_, refl, ap}
-use mathlib.Core.List.{List, [], _∷_}
+use mathlib.Core.Path.{_≡_, refl, sym, ap}
+use mathlib.Core.List.{List, [], _∷_, _++_}
 use Prim.Native.Nat.{ℕ, _+_, _-_, _*_, _/_, _%_, _≤_, _<_}
-use native.Mathlib.Nat.{div-add-mod, mul-comm, mul-left-comm}
+use native.Mathlib.Nat.{div-add-mod, mul-comm, mul-left-comm, zero-add}
 use native.Mathlib.Omega.{arith}
 use lib.Dec.{lit<}
 use lib.ListN.{length}
-use borrow.Author.Tests.{lt-ltb}
+use borrow.Author.Tests.{lt-ltb, le-ltb}
 use Rattle.modes.specs.declared.Constellation.{Constellation}
 use Rattle.modes.specs.declared.Rate.{Rate}
 use Rattle.modes.specs.declared.Rate.the-variants.{Half, NineSixteenths, ThreeQuarters}
 use Rattle.modes.specs.Modes.{constellationOf, bitsOf, infoOf, rowOf, table1, noMode, rateOf, bits, sent, sentIn, info}
 use Rattle.modes.specs.Sizes.{symbols, sentBits}
+use Rattle.modes.specs.Pdus.{Pdu, one, sumOf, pduSent, lengthOf, sentOf}
+use Rattle.modes.specs.Description.{EachFit}
 use Rattle.modes.proofs.ModeLaws.{by-mode, columns}
 use Rattle.places.specs.Selection.{Place, At, Dropped, onwards, place, origin, find, later}
 use Rattle.places.specs.Puncture.{p1Kept, P1, p2Kept34, p2Kept916, P2}
 use Rattle.places.specs.Interleaver.{interleaver}
-use Rattle.places.specs.Trains.{pdu, train, Pdu, pdus, listed, one, lengthOf, sentOf, FitPdus}
+use Rattle.places.specs.Trains.{pdu, train, pdus, listed}
 use Rattle.places.proofs.BlockLaws.{Blocks}
 use Rattle.places.proofs.SelectionLaws.{Takes, place-origin}
 use Rattle.places.proofs.SymbolLaws.{symbol, symbol-sound, seated-length}
@@ -86,14 +88,14 @@ pub takes-train : (k N a : ℕ) → 1 ≤ k → k ≤ 7 → N % info k ≡ 0 →
 unfolding Takes train
 takes-train k N a low high whole fits = (2 * N, takes-P1 a N fits, takes-pdu k N low high whole)
 
-pub takes-pdus : (ps : List Pdu) → FitPdus ps → Takes (pdus ps) (2 * lengthOf ps) (sentOf ps)
-unfolding Takes pdus lengthOf sentOf FitPdus
+pub takes-pdus : (ps : List Pdu) → EachFit ps → Takes (pdus ps) (2 * lengthOf ps) (sentOf ps)
+unfolding Takes pdus sumOf EachFit
 takes-pdus [] fit = refl
 takes-pdus (p ∷ ps) (fit, rest) =
     let first = takes-pdu (p .mode) (p .length) (fit .from-1) (fit .to-7) (fit .whole-symbols) in
     (2 * lengthOf ps, sentOf ps, omega arith, refl, first, takes-pdus ps rest)
 
-pub takes-listed : (ps : List Pdu) (a : ℕ) → FitPdus ps → a + 72 ≤ lengthOf ps → Takes (listed ps a) (2 * (lengthOf ps + 6)) (sentOf ps)
+pub takes-listed : (ps : List Pdu) (a : ℕ) → EachFit ps → a + 72 ≤ lengthOf ps → Takes (listed ps a) (2 * (lengthOf ps + 6)) (sentOf ps)
 unfolding Takes listed
 takes-listed ps a fit fits = (2 * lengthOf ps, takes-P1 a (lengthOf ps) fits, takes-pdus ps fit)
 
@@ -109,3 +111,13 @@ one-pdu-place k N a m fits h = go (place (P1 a) m) refl
     go : (p : Place) → place (P1 a) m ≡ p → onwards p (place (pdus (one k N))) ≡ onwards p (place (pdu k))
     go (At j) e = rw (lt-ltb j (2 * N) (place-origin (P1 a) (takes-P1 a N fits) m j h e .0))
     go Dropped e = refl
+
+-- the sent bits of a PDU in a list: its own P2 and interleaver, from where its share of P1's output begins
+pub origin-share : (xs : List Pdu) (p : Pdu) (ys : List Pdu) (q : ℕ) → q < pduSent p
+    → origin (pdus (xs ++ p ∷ ys)) (sentOf xs + q) ≡ 2 * lengthOf xs + origin (pdu (p .mode)) q
+unfolding origin pdus sumOf
+origin-share [] p ys q h = rw (zero-add q, lt-ltb q (pduSent p) h) (sym (zero-add _))
+origin-share (x ∷ xs) p ys q h =
+    let behind : pduSent x ≤ pduSent x + sentOf xs + q = omega arith in
+    let rest : pduSent x + sentOf xs + q - pduSent x ≡ sentOf xs + q = omega arith in
+    rw (le-ltb _ _ behind, rest) (omega (arith, origin-share xs p ys q h))

@@ -1,5 +1,5 @@
 -- What the code that sends one PDU, or spreads its soft bytes, is lent, and what it leaves: b bits per carrier, and a share of P1's
--- output that begins at `first`.
+-- output that begins at `first`. Then the same for a whole train.
 --   sourceOf    the coded bit that P1 and then the PDU's P2 put out at q
 --   Sources     there is such a coded bit for each of n sent bits, and no two are the same
 --   symbolBits  the sent bits of so many symbols
@@ -7,6 +7,9 @@
 --   pduBit      the PDU's sent bit q
 --   PduRoom     what the code asks of the lengths of what it is lent
 --   Spread      the PDU's soft bytes, counted from -128, stand at their coded bits; all else is as it was
+--   trainBit    sent bit q of a list of PDUs
+--   TrainRoom   what the code asks of a list and of the lengths of what it is lent
+--   SpreadAll   the train's soft bytes, counted from -128, stand at their coded bits; all else is as it was
 -- Assumes nothing.
 use Prim.Native.Nat.{ℕ, _+_, _*_, _<_, _≤_}
 use mathlib.Core.Path.{_≡_}
@@ -18,7 +21,9 @@ use Rattle.laws.specs.Signed.{counted}
 use Rattle.modes.specs.declared.Rate.{Rate}
 use Rattle.places.specs.Selection.{origin}
 use Rattle.places.specs.Puncture.{P1, P2}
-use Rattle.places.specs.Trains.{pduBy}
+use Rattle.modes.specs.Pdus.{Pdu, lengthOf, sentOf}
+use Rattle.modes.specs.Description.{FitList}
+use Rattle.places.specs.Trains.{pduBy, listed}
 
 -- the coded bit that P1 and then the PDU's P2 put out at q
 unfoldable pub sourceOf : Rate → ℕ → ℕ → ℕ → ℕ
@@ -53,3 +58,18 @@ pub record PduRoom (b : ℕ) (rate : Rate) (symbols a first coded sent : ℕ) : 
 unfoldable pub Spread : ℕ → Rate → ℕ → ℕ → ℕ → List ℤ → (heard heard′ : List ℕ) → Type 0
 Spread b rate a first n soft heard heard′ =
     Placed (originOf b rate a first) (λ q. counted 128 (getD soft q (pos 0))) n heard heard′
+
+-- sent bit q of a list of PDUs, among a train's coded bits
+unfoldable pub trainBit : List Pdu → ℕ → List ℕ → ℕ → ℕ
+trainBit ps a coded q = getD coded (origin (listed ps a) q) 0
+
+-- a fit list with P1 inside it; so many coded bits are all of them, and there is room for the sent bits
+pub record TrainRoom (ps : List Pdu) (a coded sent : ℕ) : Type 0 where
+  pub fit : FitList ps
+  pub inside : a + 72 ≤ lengthOf ps
+  pub all-coded : 2 * (lengthOf ps + 6) ≤ coded
+  pub room : sentOf ps ≤ sent
+
+-- the soft bytes of all PDUs, counted from -128, stand at the coded bits that they are of; all else is as it was
+unfoldable pub SpreadAll : List Pdu → ℕ → List ℤ → (heard heard′ : List ℕ) → Type 0
+SpreadAll ps a soft heard heard′ = Placed (origin (listed ps a)) (λ q. counted 128 (getD soft q (pos 0))) (sentOf ps) heard heard′

@@ -1,20 +1,23 @@
 // Which coded bit is sent where: P1, P2 and the interleaver as one selection; the sent bits by it, and (spread.rt) soft bytes back.
-// The functions are for one PDU, whose share of P1's output begins at `first`; a train of one mode is one PDU from 0 on.
-// They refuse nothing: their callers have tested what they lend.
+// A train goes PDU by PDU: each has its own mode, P2 begun anew, and a share of P1's output that begins at `first`.
+// Nothing is refused here: callers have tested what they lend.
 mod interleaver;
 mod puncture;
 mod spread;
 
 use modes::Mode;
 use modes::Rate;
-pub use spread::spread_pdu;
+use modes::Train;
+pub use spread::spread_train;
 ghost use mathlib.Core.Path.{_≡_};
 ghost use Prim.Native.Nat.{_+_, _≤_};
 ghost use lib.ListN.{length, getD};
 ghost use Rattle.laws.specs.Lists.{filled};
 ghost use Rattle.laws.specs.Scatter.{Seats, Scattered};
 ghost use Rattle.modes.specs.Modes.{bitsOf};
-ghost use Rattle.places.specs.Sending.{sourceOf, Sources, symbolBits, pduBit, PduRoom};
+ghost use Rattle.modes.specs.Pdus.{sentOf};
+ghost use Rattle.modes.specs.Description.{pdusIn};
+ghost use Rattle.places.specs.Sending.{sourceOf, Sources, symbolBits, pduBit, PduRoom, trainBit, TrainRoom};
 
 fn wide(x: u16) -> usize
     ensures { λ r. ⌜ r ≡ x ⌝ }
@@ -48,7 +51,7 @@ fn send_symbol(
 }
 
 // One PDU: its sent bits at the front of `sent`, from the train's coded bits.
-pub fn send_pdu(mode: Mode, symbols: usize, a: usize, first: usize, coded: &[u8], sent: &mut [u8])
+fn send_pdu(mode: Mode, symbols: usize, a: usize, first: usize, coded: &[u8], sent: &mut [u8])
     requires { ⌜ PduRoom (bitsOf (mode .constellation)) (mode .rate) symbols a first (length (now coded)) (length (now sent)) ⌝ }
     ensures { λ _. ⌜ now (sent .exit) ≡ filled (symbolBits (bitsOf (mode .constellation)) symbols) (pduBit (bitsOf (mode .constellation)) (mode .rate) a first (now (coded .entry))) (now (sent .entry)) ⌝ }
 {
@@ -63,5 +66,26 @@ pub fn send_pdu(mode: Mode, symbols: usize, a: usize, first: usize, coded: &[u8]
         send_symbol(&places, size, rate, a, first, base, coded, sent);
         base += size;
         symbol += 1;
+    }
+}
+
+// A train: its sent bits PDU by PDU at the front of `sent`, from its coded bits.
+pub fn send_train(train: Train, coded: &[u8], sent: &mut [u8])
+    requires { ⌜ TrainRoom (pdusIn train) (train .a) (length (now coded)) (length (now sent)) ⌝ }
+    ensures { λ _. ⌜ now (sent .exit) ≡ filled (sentOf (pdusIn train)) (trainBit (pdusIn train) (train .a) (now (coded .entry))) (now (sent .entry)) ⌝ }
+{
+    let count = train.count;
+    let a = train.a;
+    let mut k = 0usize;
+    let mut first = 0usize;
+    let mut at = 0usize;
+    while k < count {
+        let pdu = train.pdus[k];
+        let mode = pdu.mode;
+        let symbols = modes::symbols_of(mode, pdu.n);
+        send_pdu(mode, symbols, a, first, coded, &mut sent[at..]);
+        first += 2 * pdu.n;
+        at += modes::sent_bits(mode, pdu.n);
+        k += 1;
     }
 }

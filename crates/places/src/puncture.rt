@@ -21,7 +21,7 @@ fn p1_kept(r: usize) -> usize
 
 // The coded bit that P1 puts out at p.
 fn p1_origin(a: usize, p: usize) -> usize
-    requires { ⌜ (a ≤ 3456) × (p ≤ 6912) ⌝ }
+    requires { ⌜ (a ≤ 6912) × (p ≤ 6912) ⌝ }
     ensures { λ m. ⌜ m ≡ origin (P1 a) p ⌝ }
 {
     if p < 2 * a {

@@ -4,6 +4,7 @@ use crate::puncture;
 use crate::wide;
 use modes::Mode;
 use modes::Rate;
+use modes::Train;
 ghost use mathlib.Core.Path.{_≡_};
 ghost use Prim.Native.Nat.{_+_, _≤_};
 ghost use lib.IntN.{pos};
@@ -11,7 +12,8 @@ ghost use lib.ListN.{length, getD};
 ghost use Rattle.laws.specs.Scatter.{Seats, Placed};
 ghost use Rattle.laws.specs.Signed.{counted};
 ghost use Rattle.modes.specs.Modes.{bitsOf};
-ghost use Rattle.places.specs.Sending.{sourceOf, Sources, symbolBits, PduRoom, Spread};
+ghost use Rattle.modes.specs.Description.{pdusIn};
+ghost use Rattle.places.specs.Sending.{sourceOf, Sources, symbolBits, PduRoom, Spread, TrainRoom, SpreadAll};
 
 // A soft byte counted from -128.
 fn counted_from(soft: i8) -> u8
@@ -46,7 +48,7 @@ fn spread_symbol(
 }
 
 // One PDU: its soft bytes, at the front of `soft`, to its coded bits.
-pub fn spread_pdu(mode: Mode, symbols: usize, a: usize, first: usize, soft: &[i8], heard: &mut [u8])
+fn spread_pdu(mode: Mode, symbols: usize, a: usize, first: usize, soft: &[i8], heard: &mut [u8])
     requires { ⌜ PduRoom (bitsOf (mode .constellation)) (mode .rate) symbols a first (length (now heard)) (length (now soft)) ⌝ }
     ensures { λ _. ⌜ Spread (bitsOf (mode .constellation)) (mode .rate) a first (symbolBits (bitsOf (mode .constellation)) symbols) (now (soft .entry)) (now (heard .entry)) (now (heard .exit)) ⌝ }
 {
@@ -61,5 +63,26 @@ pub fn spread_pdu(mode: Mode, symbols: usize, a: usize, first: usize, soft: &[i8
         spread_symbol(&places, size, rate, a, first, base, soft, heard);
         base += size;
         symbol += 1;
+    }
+}
+
+// A train: its soft bytes PDU by PDU to their coded bits.
+pub fn spread_train(train: Train, soft: &[i8], heard: &mut [u8])
+    requires { ⌜ TrainRoom (pdusIn train) (train .a) (length (now heard)) (length (now soft)) ⌝ }
+    ensures { λ _. ⌜ SpreadAll (pdusIn train) (train .a) (now (soft .entry)) (now (heard .entry)) (now (heard .exit)) ⌝ }
+{
+    let count = train.count;
+    let a = train.a;
+    let mut k = 0usize;
+    let mut first = 0usize;
+    let mut at = 0usize;
+    while k < count {
+        let pdu = train.pdus[k];
+        let mode = pdu.mode;
+        let symbols = modes::symbols_of(mode, pdu.n);
+        spread_pdu(mode, symbols, a, first, &soft[at..], heard);
+        first += 2 * pdu.n;
+        at += modes::sent_bits(mode, pdu.n);
+        k += 1;
     }
 }

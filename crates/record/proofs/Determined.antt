@@ -9,8 +9,8 @@ use lib.ListN.{getD, take, drop}
 use lib.Seq.{getD-drop}
 use Rattle.laws.proofs.AnswerLaws.{fixed}
 use Rattle.modes.specs.Sizes.{symbols, sentBits, octetsOf}
-use Rattle.modem.specs.Decode.{DecodeReadings}
-use Rattle.modem.proofs.ChainLaws.{chain-done}
+use Rattle.modem.specs.OneMode.{Wanted, DecodeReadings}
+use Rattle.record.proofs.RunLaws.{run-back}
 use Rattle.record.specs.Record.{modeOf, counterOf, lengthOf, placeOf, octetsUsed, Line, Run, LineOf}
 
 -- what is taken of bytes is bytes
@@ -32,13 +32,11 @@ record Whole (mode N : ℕ) (l : Line) : Type 0 where
   sure : l .confirmed ≡ true
 
 run-whole : (mode counter N a : ℕ) (octets : List ℕ) (l : Line) → ((k : ℕ) → getD octets k 0 < 256) → Run mode counter N a octets l → Whole mode N l
-unfolding DecodeReadings
+unfolding DecodeReadings Wanted
 run-whole mode counter N a octets l low run =
-    let back = chain-done mode counter N a octets (run .sent₀) (run .sent) (run .i₀) (run .q₀) (run .i) (run .q) (run .octets₀) (run .words₀) _ low
-    (run .encoded) (run .taken) (run .decoded)
-    in
+    let (no-cost, sure) = run-back mode counter N a octets l low run in
     let told = run .decoded .done refl in
-    record { all-symbols = told .all-symbols; all-sent = told .all-sent; no-cost = back .no-cost; sure = back .sure }
+    record { all-symbols = told .all-symbols; all-sent = told .all-sent; no-cost = no-cost; sure = sure }
 
 module _ (bytes : List ℕ) (low : (k : ℕ) → getD bytes k 0 < 256) where
   -- a line that is not refused: what was sent came back

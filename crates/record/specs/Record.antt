@@ -18,9 +18,8 @@ use Rattle.laws.specs.Lists.{choose}
 use Rattle.laws.specs.Answers.{Leaves}
 use Rattle.modes.specs.Sizes.{carriers, sentBits, octetsOf}
 use Rattle.modes.specs.Refusals.{modeUnknown, counterAbove, described}
-use Rattle.modem.specs.Encode.{Encode}
-use Rattle.modem.specs.Ideal.{Ideal}
-use Rattle.modem.specs.Decode.{outcome, DecodeReadings}
+use Rattle.modem.specs.Decode.{outcome}
+use Rattle.modem.specs.OneMode.{Encode, Ideal, DecodeReadings}
 
 -- the number that two bytes write, high byte first
 abbrev pub two : (high low : ℕ) → ℕ

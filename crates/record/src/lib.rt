@@ -60,28 +60,33 @@ fn refusal(mode: u32, counter: u32, n: u32, a: u32) -> u32
     if 432 < n {
         return 3;
     }
-    modes::refusal(mode, counter, n, a)
+    let modes = [mode; 16];
+    let lengths = [n; 16];
+    modes::refusal(1, &modes, &lengths, counter, a)
 }
 
-// Encodes, takes ideal readings, decodes: a record of which all has been tested.
+// Encodes, takes ideal readings, decodes: a record of which all has been tested, as a list of one PDU.
 fn run(mode: u32, counter: u32, n: u32, a: u32, octets: &[u8]) -> Answer
     requires { ⌜ (ladder (described mode counter n a) ≡ 0) × (n ≤ 432) × (length (now octets) ≡ octetsOf n) ⌝ }
     ensures { λ r. ⌜ (r .refusal ≡ 0) × Run mode counter n a (now (octets .entry)) (line (r .symbols) (r .n) (r .cost) (r .confirmed)) ⌝ }
 {
-    let train = modes::train_of(mode, counter, n, a);
-    let bits = modes::sent_bits(train.mode, train.n);
-    let carriers = 48 * modes::symbols_of(train.mode, train.n);
+    let one = modes::mode_of(mode);
+    let bits = modes::sent_bits(one, n as usize);
+    let carriers = 48 * modes::symbols_of(one, n as usize);
+    let modes = [mode; 16];
+    let lengths = [n; 16];
     let mut sent = sent_room();
-    modem::encode(mode, counter, n, a, octets, &mut sent);
+    modem::encode(1, &modes, &lengths, counter, a, octets, &mut sent);
     let mut i = readings_room();
     let mut q = readings_room();
-    modem::ideal(mode, n, &sent[0..bits], &mut i, &mut q);
+    modem::ideal(1, &modes, &lengths, &sent[0..bits], &mut i, &mut q);
     let mut back = octets_room();
     let mut words = words_room();
     modem::decode_readings(
-        mode,
+        1,
+        &modes,
+        &lengths,
         counter,
-        n,
         a,
         &i[0..carriers],
         &q[0..carriers],

@@ -51,13 +51,11 @@ soft-range c i q p = go (ltb (p % bitsOf c) (widthI c)) refl
         let h : widthI c ≤ p % bitsOf c = ltb-false (p % bitsOf c) (widthI c) e in
         rw e (byte-range (widthQ c) (p % bitsOf c - widthI c) _ (omega (arith, widths c, within c p)) (widths c .2))
 
-all-within : (n : ℕ) (f : ℕ → ℤ) → ((k : ℕ) → isSoft (f k) ≡ true) → allSoft (tabulate n f) ≡ true
+-- soft bytes that are made and all lie in the range
+pub all-soft : (n : ℕ) (f : ℕ → ℤ) → ((k : ℕ) → isSoft (f k) ≡ true) → allSoft (tabulate n f) ≡ true
 unfolding allSoft tabulate
-all-within zero f each = refl
-all-within (suc n) f each = rw (each 0, all-within n (λ k. f (suc k)) (λ k. each (suc k)))
-
-pub all-soft : (c : Constellation) (i q : List ℤ) (n : ℕ) → allSoft (tabulate n (softAt c i q)) ≡ true
-all-soft c i q n = all-within n (softAt c i q) (soft-range c i q)
+all-soft zero f each = refl
+all-soft (suc n) f each = rw (each 0, all-soft n (λ k. f (suc k)) (λ k. each (suc k)))
 
 both-true : (a b : Bool) → (a && b) ≡ true → (a ≡ true) × (b ≡ true)
 both-true true b e = (refl, e)

@@ -17,7 +17,9 @@ use Rattle.coder.specs.Encoder.{tailed, coded}
 use Rattle.coder.specs.Train.{Train}
 use Rattle.coder.proofs.TrainLaws.{tailed-before, tailed-bits, scrambled-train}
 use Rattle.places.specs.Selection.{Selection}
-use Rattle.places.specs.Trains.{pdu, train, Pdu, pdus, listed, lengthOf, sentOf, FitPdus}
+use Rattle.modes.specs.Pdus.{Pdu, lengthOf, sentOf}
+use Rattle.modes.specs.Description.{EachFit}
+use Rattle.places.specs.Trains.{pdu, train, pdus, listed}
 use Rattle.places.proofs.SelectionLaws.{Takes, place-origin}
 use Rattle.places.proofs.TrainLaws.{takes-train, takes-listed}
 use Rattle.unique.specs.Sameness.{Octets, SameSent}
@@ -62,7 +64,7 @@ module _ (f : Selection) (N n : ℕ) (takes : Takes f (2 * (N + 6)) n) (shown : 
       ∙ tailed-before v t (omega (arith, ubits .count, vbits .count)))
 
 -- two trains of one list of PDUs
-pub listed-unique : (ps : List Pdu) (a : ℕ) → FitPdus ps → a + 72 ≤ lengthOf ps
+pub listed-unique : (ps : List Pdu) (a : ℕ) → EachFit ps → a + 72 ≤ lengthOf ps
     → (u v : List ℕ) → Train (lengthOf ps) u → Train (lengthOf ps) v
     → SameSent (listed ps a) (sentOf ps) u v → u ≡ v
 unfolding listed
@@ -78,7 +80,7 @@ train-unique k N a low high whole fits =
     shown-unique (train k a) N (sentBits k N) (takes-train k N a low high whole fits) (step-shown a (pdu k) (windowed-pdu k low high))
 
 -- and from sent bits back to octets
-pub listed-octets-unique : (ps : List Pdu) (a counter : ℕ) → FitPdus ps → a + 72 ≤ lengthOf ps → lengthOf ps % 8 ≡ 0
+pub listed-octets-unique : (ps : List Pdu) (a counter : ℕ) → EachFit ps → a + 72 ≤ lengthOf ps → lengthOf ps % 8 ≡ 0
     → (s r : List ℕ) → Octets (octetsOf (lengthOf ps)) s → Octets (octetsOf (lengthOf ps)) r
     → SameSent (listed ps a) (sentOf ps) (scrambled counter (lengthOf ps) s) (scrambled counter (lengthOf ps) r) → s ≡ r
 listed-octets-unique ps a counter fit fits whole s r hs hr same =

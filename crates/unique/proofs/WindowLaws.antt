@@ -18,7 +18,9 @@ use Rattle.modes.specs.Modes.{rateOf}
 use Rattle.modes.specs.Sizes.{sentBits}
 use Rattle.places.specs.Selection.{later, find, Selection, blocks, beside, place}
 use Rattle.places.specs.Puncture.{P2, p2Kept34, p2Kept916}
-use Rattle.places.specs.Trains.{pdu, Pdu, pdus, FitPdus}
+use Rattle.modes.specs.Pdus.{Pdu}
+use Rattle.modes.specs.Description.{EachFit}
+use Rattle.places.specs.Trains.{pdu, pdus}
 use Rattle.unique.proofs.KeptLaws.{isPlace, isPlace-later, kept, kept-blocks, kept-pdu}
 
 -- the first two, or the first and the last, or all but the first
@@ -126,8 +128,8 @@ module _ (N o : ℕ) {f g : Selection} (wf : Windowed f) (wg : Windowed g) where
   windowed-beside : Windowed (beside (2 * N) o f g)
   windowed-beside = record { starts = starts-beside; windows = window-beside }
 
-pub windowed-pdus : (ps : List Pdu) → FitPdus ps → Windowed (pdus ps)
-unfolding pdus FitPdus place
+pub windowed-pdus : (ps : List Pdu) → EachFit ps → Windowed (pdus ps)
+unfolding pdus EachFit place
 windowed-pdus [] fit = record { starts = (refl, refl); windows = λ c. tt }
 windowed-pdus (p ∷ ps) (fit, fits) =
     windowed-beside (p .length) (sentBits (p .mode) (p .length)) (windowed-pdu (p .mode) (fit .from-1) (fit .to-7)) (windowed-pdus ps fits)

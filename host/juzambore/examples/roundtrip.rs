@@ -1,22 +1,31 @@
 //! Sends one train and takes it back: octets, sent bits, ideal readings, and octets again.
+//!
+//! Its two PDUs are control in a slow mode and data in a fast one.
 use juzambore::{decode_readings, encode, ideal};
 
+/// A list as the calls take it: what stands past the count is not read.
+fn listed<const COUNT: usize>(numbers: [u32; COUNT]) -> [u32; 16] {
+    std::array::from_fn(|k| numbers.get(k).copied().unwrap_or(0))
+}
+
 fn main() {
-    let (mode, counter, n, a) = (6, 4, 144, 0); // 16QAM 3/4: one symbol of 192 sent bits on 48 carriers
-    let octets = *b"a train of 18 octs";
+    // BPSK 1/2: three symbols of 48 sent bits. 16QAM 3/4: two symbols of 192. Each symbol has 48 carriers.
+    let (count, modes, lengths) = (2, &listed([1, 6]), &listed([72, 288]));
+    let (counter, a) = (4, 36); // P1 lies across the two PDUs
+    let octets = *b"control: thirty-six octets of data in mode 6.";
 
-    let mut sent = [0; 192];
-    assert_eq!(encode(mode, counter, n, a, &octets, &mut sent), 0);
-    let (mut i, mut q) = ([0; 48], [0; 48]);
-    assert_eq!(ideal(mode, n, &sent, &mut i, &mut q), 0);
+    let mut sent = [0; 3 * 48 + 2 * 192];
+    assert_eq!(encode(count, modes, lengths, counter, a, &octets, &mut sent), 0);
+    let (mut i, mut q) = ([0; 5 * 48], [0; 5 * 48]);
+    assert_eq!(ideal(count, modes, lengths, &sent, &mut i, &mut q), 0);
 
-    let (mut back, mut words) = ([0; 18], [0; 150]);
-    let answer = decode_readings(mode, counter, n, a, &i, &q, &mut back, &mut words);
+    let (mut back, mut words) = ([0; 45], [0; 360 + 6]);
+    let answer = decode_readings(count, modes, lengths, counter, a, &i, &q, &mut back, &mut words);
     assert_eq!(answer.refusal, 0);
 
-    println!("sent     {octets:02x?}");
-    println!("decoded  {back:02x?}");
+    println!("sent     {}", octets.escape_ascii());
+    println!("decoded  {}", back.escape_ascii());
     let mark = if answer.confirmed { "confirmed" } else { "not confirmed" };
-    println!("{} symbol, {} sent bits, cost {}, {mark}", answer.symbols, answer.n, answer.cost);
+    println!("{} symbols, {} sent bits, cost {}, {mark}", answer.symbols, answer.n, answer.cost);
     assert_eq!(octets, back);
 }

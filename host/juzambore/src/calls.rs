@@ -3,9 +3,10 @@
 //! Why it is sound. The library asks three things of its caller: that each pointer is good for its length, that a
 //! buffer it writes overlaps no other, and that the declarations below are those of juzambore.h. A pointer and a length
 //! always come from one slice, which is good for that many elements while it is borrowed, and a length goes as usize,
-//! which is size_t. A slice behind `&mut` overlaps no other borrowed slice; two that are only read may, and no read can
-//! tell. Every other value is a plain number, of which any is accepted, and every bit pattern of what is written or
-//! answered is a value of its type.
+//! which is size_t. Modes and lengths go without one: they are arrays of the sixteen numbers that juzambore.h asks for.
+//! A slice behind `&mut` overlaps no other borrowed one; two that are only read may, and no read can tell. Every other
+//! value is a plain number, of which any is accepted, and every bit pattern of what is written or answered is a value
+//! of its type.
 use crate::{Answer, Mapping};
 
 #[repr(C)]
@@ -26,40 +27,48 @@ struct CAnswer {
 
 extern "C" {
     fn juzambore_encode(
-        mode: u32, counter: u32, n: u32, a: u32, octets: *const u8, octets_len: usize, sent: *mut u8, sent_len: usize,
+        count: u32, modes: *const u32, lengths: *const u32, counter: u32, a: u32, octets: *const u8, octets_len: usize,
+        sent: *mut u8, sent_len: usize,
     ) -> u32;
     fn juzambore_ideal(
-        mode: u32, n: u32, sent: *const u8, sent_len: usize, i: *mut i16, i_len: usize, q: *mut i16, q_len: usize,
+        count: u32, modes: *const u32, lengths: *const u32, sent: *const u8, sent_len: usize, i: *mut i16,
+        i_len: usize, q: *mut i16, q_len: usize,
     ) -> u32;
     fn juzambore_mapped(mode: u32, group: u32) -> CPoint;
     fn juzambore_soften(
-        mode: u32, n: u32, i: *const i16, i_len: usize, q: *const i16, q_len: usize, soft: *mut i8, soft_len: usize,
+        count: u32, modes: *const u32, lengths: *const u32, i: *const i16, i_len: usize, q: *const i16, q_len: usize,
+        soft: *mut i8, soft_len: usize,
     ) -> u32;
     fn juzambore_decode_soft(
-        mode: u32, counter: u32, n: u32, a: u32, soft: *const i8, soft_len: usize, octets: *mut u8, octets_len: usize,
-        words: *mut u64, words_len: usize,
-    ) -> CAnswer;
-    fn juzambore_decode_readings(
-        mode: u32, counter: u32, n: u32, a: u32, i: *const i16, i_len: usize, q: *const i16, q_len: usize,
+        count: u32, modes: *const u32, lengths: *const u32, counter: u32, a: u32, soft: *const i8, soft_len: usize,
         octets: *mut u8, octets_len: usize, words: *mut u64, words_len: usize,
     ) -> CAnswer;
+    fn juzambore_decode_readings(
+        count: u32, modes: *const u32, lengths: *const u32, counter: u32, a: u32, i: *const i16, i_len: usize,
+        q: *const i16, q_len: usize, octets: *mut u8, octets_len: usize, words: *mut u64, words_len: usize,
+    ) -> CAnswer;
 }
 
-/// The sent bits of a train, one to a byte, in the order after the interleaver. Refusals 1 to 8.
+/// The sent bits of a train, one to a byte, in the order after the interleaver. Refusals 1 to 8 and 11.
 ///
-/// It needs `n / 8` octets in, and room for the train's sent bits.
-pub fn encode(mode: u32, counter: u32, n: u32, a: u32, octets: &[u8], sent: &mut [u8]) -> u32 {
+/// It needs `N / 8` octets in, and room for the train's sent bits.
+pub fn encode(
+    count: u32, modes: &[u32; 16], lengths: &[u32; 16], counter: u32, a: u32, octets: &[u8], sent: &mut [u8],
+) -> u32 {
+    let (modes, lengths) = (modes.as_ptr(), lengths.as_ptr());
     let (from, to) = ((octets.as_ptr(), octets.len()), (sent.as_mut_ptr(), sent.len()));
-    unsafe { juzambore_encode(mode, counter, n, a, from.0, from.1, to.0, to.1) }
+    unsafe { juzambore_encode(count, modes, lengths, counter, a, from.0, from.1, to.0, to.1) }
 }
 
-/// The ideal readings of sent bits: 256 times the level, 48 to a symbol on each axis. Refusals 1, 3, 4, 5, 7, 8, 9.
+/// The ideal readings of sent bits: 256 times the level, 48 to a symbol on each axis. Refusals 1, 3, 4, 5, 7, 8, 9, 11.
 ///
-/// It needs the sent bits of a train of `n` information bits, each 0 or 1, and room for 48 x symbols readings on each
-/// axis. BPSK's readings of Q are 0.
-pub fn ideal(mode: u32, n: u32, sent: &[u8], i: &mut [i16], q: &mut [i16]) -> u32 {
+/// It needs the sent bits of a train of these PDUs, each 0 or 1, and room for 48 x symbols readings on each axis.
+/// BPSK's readings of Q are 0.
+pub fn ideal(count: u32, modes: &[u32; 16], lengths: &[u32; 16], sent: &[u8], i: &mut [i16], q: &mut [i16]) -> u32 {
+    let (modes, lengths) = (modes.as_ptr(), lengths.as_ptr());
     let (on_i, on_q) = ((i.as_mut_ptr(), i.len()), (q.as_mut_ptr(), q.len()));
-    unsafe { juzambore_ideal(mode, n, sent.as_ptr(), sent.len(), on_i.0, on_i.1, on_q.0, on_q.1) }
+    let from = (sent.as_ptr(), sent.len());
+    unsafe { juzambore_ideal(count, modes, lengths, from.0, from.1, on_i.0, on_i.1, on_q.0, on_q.1) }
 }
 
 /// The transmitter's point for one group of bits, the earliest the highest. Refusals 1 and 9.
@@ -68,39 +77,50 @@ pub fn mapped(mode: u32, group: u32) -> Mapping {
     Mapping { refusal, i, q }
 }
 
-/// The soft bytes of readings, -80 to 80, one for each sent bit. Refusals 1, 3, 4, 5, 7, 8.
+/// The soft bytes of readings, -80 to 80, one for each sent bit. Refusals 1, 3, 4, 5, 7, 8, 11.
 ///
 /// It needs 48 x symbols readings on each axis, and room for the train's sent bits. BPSK's readings of Q must be there
 /// and do not matter.
-pub fn soften(mode: u32, n: u32, i: &[i16], q: &[i16], soft: &mut [i8]) -> u32 {
+pub fn soften(count: u32, modes: &[u32; 16], lengths: &[u32; 16], i: &[i16], q: &[i16], soft: &mut [i8]) -> u32 {
+    let (modes, lengths) = (modes.as_ptr(), lengths.as_ptr());
+    let (on_i, on_q) = ((i.as_ptr(), i.len()), (q.as_ptr(), q.len()));
     let to = (soft.as_mut_ptr(), soft.len());
-    unsafe { juzambore_soften(mode, n, i.as_ptr(), i.len(), q.as_ptr(), q.len(), to.0, to.1) }
+    unsafe { juzambore_soften(count, modes, lengths, on_i.0, on_i.1, on_q.0, on_q.1, to.0, to.1) }
 }
 
-/// The train of least cost, from soft bytes. Refusals 1 to 9.
+/// The train of least cost, from soft bytes. Refusals 1 to 9 and 11.
 ///
-/// It needs a soft byte of -80 to 80 for each sent bit, room for `n / 8` octets, and `n + 6` working words, which are
+/// It needs a soft byte of -80 to 80 for each sent bit, room for `N / 8` octets, and `N + 6` working words, which are
 /// zero after success; what they held before does not matter.
+#[allow(clippy::too_many_arguments)]
 pub fn decode_soft(
-    mode: u32, counter: u32, n: u32, a: u32, soft: &[i8], octets: &mut [u8], words: &mut [u64],
+    count: u32, modes: &[u32; 16], lengths: &[u32; 16], counter: u32, a: u32, soft: &[i8], octets: &mut [u8],
+    words: &mut [u64],
 ) -> Answer {
+    let (modes, lengths) = (modes.as_ptr(), lengths.as_ptr());
     let (to, work) = ((octets.as_mut_ptr(), octets.len()), (words.as_mut_ptr(), words.len()));
     let from = (soft.as_ptr(), soft.len());
-    answer(unsafe { juzambore_decode_soft(mode, counter, n, a, from.0, from.1, to.0, to.1, work.0, work.1) })
+    answer(unsafe {
+        juzambore_decode_soft(count, modes, lengths, counter, a, from.0, from.1, to.0, to.1, work.0, work.1)
+    })
 }
 
-/// The train of least cost, from readings: as [`soften`] and then [`decode_soft`]. Refusals 1 to 8.
+/// The train of least cost, from readings: as [`soften`] and then [`decode_soft`]. Refusals 1 to 8 and 11.
 ///
-/// It needs 48 x symbols readings on each axis, room for `n / 8` octets, and `n + 6` working words, which are zero
+/// It needs 48 x symbols readings on each axis, room for `N / 8` octets, and `N + 6` working words, which are zero
 /// after success; what they held before does not matter.
 #[allow(clippy::too_many_arguments)]
 pub fn decode_readings(
-    mode: u32, counter: u32, n: u32, a: u32, i: &[i16], q: &[i16], octets: &mut [u8], words: &mut [u64],
+    count: u32, modes: &[u32; 16], lengths: &[u32; 16], counter: u32, a: u32, i: &[i16], q: &[i16], octets: &mut [u8],
+    words: &mut [u64],
 ) -> Answer {
+    let (modes, lengths) = (modes.as_ptr(), lengths.as_ptr());
     let (on_i, on_q) = ((i.as_ptr(), i.len()), (q.as_ptr(), q.len()));
     let (to, work) = ((octets.as_mut_ptr(), octets.len()), (words.as_mut_ptr(), words.len()));
     answer(unsafe {
-        juzambore_decode_readings(mode, counter, n, a, on_i.0, on_i.1, on_q.0, on_q.1, to.0, to.1, work.0, work.1)
+        juzambore_decode_readings(
+            count, modes, lengths, counter, a, on_i.0, on_i.1, on_q.0, on_q.1, to.0, to.1, work.0, work.1,
+        )
     })
 }
 

@@ -1,27 +1,31 @@
 //! The calls of Juzambore, a proved software baseband for HIPERLAN/2, as safe functions over its static library.
 //!
-//! A train is N information bits in N/8 octets, most significant bit first, with a mode 1 to 7, a frame counter 0 to 15
-//! and a place a where P1 begins. [`encode`] makes its sent bits and [`ideal`] their ideal readings; [`mapped`] gives
-//! the point of one carrier. [`soften`] makes soft bytes of readings, and [`decode_soft`] and [`decode_readings`] find
-//! the train of least cost and say whether it is confirmed.
+//! A train is a list of 1 to 16 PDUs, each with a mode 1 to 7 and a length in information bits; with a frame counter
+//! 0 to 15 and a place a where P1 begins, counted from the train's first bit. Its N bits, the sum of the lengths, are
+//! N/8 octets, most significant bit first. The calls take the list as a count and two arrays of sixteen numbers, of
+//! which those past the count are not read. [`encode`] makes the sent bits and [`ideal`] their ideal readings;
+//! [`mapped`] gives the point of one carrier. [`soften`] makes soft bytes of readings, and [`decode_soft`] and
+//! [`decode_readings`] find the train of least cost and say whether it is confirmed.
 //!
 //! Every input of any length is accepted. Bad input is answered with a refusal number, 0 means done. A refused call
 //! changes no lent element and reports zero for everything else. Elements past the needed length are never changed.
 //!
 //! | no. | when |
 //! |---|---|
-//! | 1 | the mode is not 1 to 7 |
+//! | 11 | the list has no PDU or more than 16 |
+//! | 1 | a mode is not 1 to 7 |
 //! | 2 | the counter is above 15 |
-//! | 3 | N is below 72 or above 3,456 |
-//! | 4 | N is not a multiple of 8 |
-//! | 5 | N is not a multiple of the information bits per symbol |
+//! | 3 | a PDU's length is below 72 or above 3,456 |
+//! | 4 | it is not a multiple of 8 |
+//! | 5 | it is not a multiple of the information bits per symbol of its mode |
+//! | 3 | N is above 3,456 |
 //! | 6 | a is above N - 72 |
 //! | 7 | an input slice is not exactly as long as the call needs |
 //! | 8 | an output or working slice is shorter than the call needs |
 //! | 9 | a value is out of range |
 //!
-//! They are tested in this order; a call without some parameter skips its test. With
-//! symbols = N / (information bits per symbol) and n = symbols x (sent bits per symbol), by the mode:
+//! They are tested in this order, the lengths PDU by PDU; a call without some parameter skips its test. A PDU has
+//! length / (information bits per symbol) symbols, each of so many sent bits; symbols and n of a train are sums:
 //!
 //! | mode | constellation | rate | sent bits per symbol | information bits per symbol |
 //! |---|---|---|---|---|
@@ -33,8 +37,8 @@
 //! | 6 | 16QAM | 3/4 | 192 | 144 |
 //! | 7 | 64QAM | 3/4 | 288 | 216 |
 //!
-//! `cargo run --example roundtrip` sends a train and takes it back. The library is x86-64 code; `build.rs` says where
-//! it is looked for.
+//! `cargo run --example roundtrip` sends a train of two PDUs and takes it back. The library is x86-64 code; `build.rs`
+//! says where it is looked for.
 #![deny(unsafe_code, missing_docs)]
 
 #[allow(unsafe_code)]

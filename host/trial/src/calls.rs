@@ -1,5 +1,6 @@
 //! One call of the six with all it is lent, which any implementation can be asked to do.
-use crate::independent::{self, modes::Size};
+use crate::description::Description;
+use crate::independent;
 use crate::lent::Lent;
 use crate::ordinary;
 use juzambore::{Answer, Mapping};
@@ -22,24 +23,23 @@ impl Call {
         ["encode", "ideal", "mapped", "soften", "decode_soft", "decode_readings"][self as usize]
     }
 
-    /// The refusals that document 01 gives this call: those of its parameters, lengths and values.
-    pub fn refusals(self) -> &'static [usize] {
-        match self {
-            Call::Encode => &[1, 2, 3, 4, 5, 6, 7, 8],
-            Call::Ideal => &[1, 3, 4, 5, 7, 8, 9],
-            Call::Mapped => &[1, 9],
-            Call::Soften => &[1, 3, 4, 5, 7, 8],
-            Call::DecodeSoft => &[1, 2, 3, 4, 5, 6, 7, 8, 9],
-            Call::DecodeReadings => &[1, 2, 3, 4, 5, 6, 7, 8],
+    /// Whether the documents give this call the refusal of a number: one of its parameters, lengths or values.
+    pub fn can_refuse(self, number: u32) -> bool {
+        let has_place = matches!(self, Call::Encode | Call::DecodeSoft | Call::DecodeReadings);
+        match number {
+            1 => true,
+            2 | 6 => has_place,
+            9 => matches!(self, Call::Ideal | Call::Mapped | Call::DecodeSoft),
+            _ => self != Call::Mapped,
         }
     }
 }
 
-pub type Encode = fn(u32, u32, u32, u32, &[u8], &mut [u8]) -> u32;
-type Ideal = fn(u32, u32, &[u8], &mut [i16], &mut [i16]) -> u32;
-type Soften = fn(u32, u32, &[i16], &[i16], &mut [i8]) -> u32;
-pub type DecodeSoft = fn(u32, u32, u32, u32, &[i8], &mut [u8], &mut [u64]) -> Answer;
-type DecodeReadings = fn(u32, u32, u32, u32, &[i16], &[i16], &mut [u8], &mut [u64]) -> Answer;
+pub type Encode = fn(u32, &[u32; 16], &[u32; 16], u32, u32, &[u8], &mut [u8]) -> u32;
+type Ideal = fn(u32, &[u32; 16], &[u32; 16], &[u8], &mut [i16], &mut [i16]) -> u32;
+type Soften = fn(u32, &[u32; 16], &[u32; 16], &[i16], &[i16], &mut [i8]) -> u32;
+pub type DecodeSoft = fn(u32, &[u32; 16], &[u32; 16], u32, u32, &[i8], &mut [u8], &mut [u64]) -> Answer;
+type DecodeReadings = fn(u32, &[u32; 16], &[u32; 16], u32, u32, &[i16], &[i16], &mut [u8], &mut [u64]) -> Answer;
 
 /// An implementation of the six calls.
 pub struct Calls {
@@ -89,14 +89,12 @@ impl Told {
     }
 }
 
-/// A call's parameters and lent buffers; those that it hasn't are 0 and empty.
+/// A call's parameters and lent buffers; those that it hasn't do not matter or are empty.
 #[derive(Clone, Debug, PartialEq)]
 pub struct Case {
     pub call: Call,
+    pub train: Description,
     pub mode: u32,
-    pub counter: u32,
-    pub n: u32,
-    pub a: u32,
     pub group: u32,
     pub octets: Lent<u8>,
     pub sent: Lent<u8>,
@@ -108,41 +106,38 @@ pub struct Case {
 
 impl Case {
     /// A call with nothing lent yet.
-    pub fn new(call: Call, [mode, counter, n, a]: [u32; 4]) -> Case {
+    pub fn new(call: Call, train: Description) -> Case {
         let (octets, sent, soft) = (Lent::none(), Lent::none(), Lent::none());
         let (i, q, words) = (Lent::none(), Lent::none(), Lent::none());
-        Case { call, mode, counter, n, a, group: 0, octets, sent, i, q, soft, words }
+        Case { call, train, mode: 0, group: 0, octets, sent, i, q, soft, words }
     }
 
     pub fn title(&self) -> String {
-        let Case { call, mode, counter, n, a, group, .. } = self;
-        format!("{}, mode {mode}, counter {counter}, N {n}, a {a}, group {group}", call.name())
-    }
-
-    /// The counts of the call's train, which must be a good one.
-    pub fn size(&self) -> Size {
-        Size::of(self.mode, Some(self.counter), self.n, Some(self.a)).expect("a good description")
+        let Case { call, train, mode, group, .. } = self;
+        format!("{}, {train:?}, or mode {mode}, group {group}", call.name())
     }
 
     /// Does the call; the buffers are then as it left them.
     pub fn run(&mut self, by: &Calls) -> Told {
-        let &mut Case { call, mode, counter, n, a, group, .. } = self;
-        let Case { octets, sent, i, q, soft, words, .. } = self;
-        match call {
-            Call::Encode => Told::Number((by.encode)(mode, counter, n, a, octets.part(), sent.part_mut())),
-            Call::Ideal => Told::Number((by.ideal)(mode, n, sent.part(), i.part_mut(), q.part_mut())),
+        let Case { train, octets, sent, i, q, soft, words, .. } = self;
+        let &mut Description { count, ref modes, ref lengths, counter, a } = train;
+        match self.call {
+            Call::Encode => {
+                Told::Number((by.encode)(count, modes, lengths, counter, a, octets.part(), sent.part_mut()))
+            }
+            Call::Ideal => Told::Number((by.ideal)(count, modes, lengths, sent.part(), i.part_mut(), q.part_mut())),
             Call::Mapped => {
-                let Mapping { refusal, i, q } = (by.mapped)(mode, group);
+                let Mapping { refusal, i, q } = (by.mapped)(self.mode, self.group);
                 Told::Point { refusal, i: i.to_bits(), q: q.to_bits() }
             }
-            Call::Soften => Told::Number((by.soften)(mode, n, i.part(), q.part(), soft.part_mut())),
+            Call::Soften => Told::Number((by.soften)(count, modes, lengths, i.part(), q.part(), soft.part_mut())),
             Call::DecodeSoft => {
                 let (octets, words) = (octets.part_mut(), words.part_mut());
-                Told::Decoded((by.decode_soft)(mode, counter, n, a, soft.part(), octets, words))
+                Told::Decoded((by.decode_soft)(count, modes, lengths, counter, a, soft.part(), octets, words))
             }
             Call::DecodeReadings => {
-                let (octets, words) = (octets.part_mut(), words.part_mut());
-                Told::Decoded((by.decode_readings)(mode, counter, n, a, i.part(), q.part(), octets, words))
+                let (i, q, octets, words) = (i.part(), q.part(), octets.part_mut(), words.part_mut());
+                Told::Decoded((by.decode_readings)(count, modes, lengths, counter, a, i, q, octets, words))
             }
         }
     }

@@ -1,48 +1,10 @@
-//! Random calls: trains short and long in all modes, and what can be wrong with each parameter, length and value.
+//! Random calls: random trains, and what can be wrong with each length and value that a call is lent.
 use crate::calls::{Call, Case};
-use crate::independent::{encode, modes::Size};
+use crate::description::Description;
+use crate::independent::encode;
 use crate::lent::Lent;
 use crate::random::Random;
-
-const MOST: u32 = u32::MAX;
-
-/// A good description of this mode: mode, counter, N and a. Most trains are short, one in 64 is of the greatest length.
-pub fn description(random: &mut Random, mode: u32) -> [u32; 4] {
-    let (least, most) = match random.below(64) {
-        0 => (3456, 3456),
-        1 => (72, 3456),
-        2..=7 => (72, 1000),
-        _ => (72, 432),
-    };
-    let lengths: Vec<u32> = (least..=most).filter(|&n| Size::of(mode, None, n, None).is_ok()).collect();
-    let n = random.pick(&lengths);
-    let within = random.below(n as usize - 71) as u32;
-    [mode, random.below(16) as u32, n, random.pick(&[0, n - 72, within, within])]
-}
-
-/// Now and then some of a call's numbers are bad, or any 32 bits.
-fn damage(random: &mut Random, case: &mut Case) {
-    if !random.one_in(3) {
-        return;
-    }
-    let any = random.word() as u32;
-    let n = case.n;
-    if random.one_in(4) {
-        case.mode = random.pick(&[0, 8, 9, 256 + case.mode, any, MOST]);
-    }
-    if random.one_in(4) {
-        case.counter = random.pick(&[16, 17, 256, any, MOST]);
-    }
-    if random.one_in(2) {
-        let more = 1 + random.below(7) as u32;
-        let near = [n + more, n + more, n + 8, n + 8, n - 8, n + 4];
-        let far = [0, 64, 71, 73, 108, 3457, 3464, any, MOST, MOST - 7];
-        case.n = if random.one_in(2) { random.pick(&near) } else { random.pick(&far) };
-    }
-    if random.one_in(4) {
-        case.a = random.pick(&[n - 71, n, 3456, any, MOST, MOST - 71]);
-    }
-}
+use crate::trains::{self, MOST};
 
 /// The length of a slice that must be exactly so long, now and then wrong.
 fn exact(random: &mut Random, needed: usize) -> usize {
@@ -71,17 +33,17 @@ fn sent_bits(random: &mut Random, count: usize) -> Vec<u8> {
     sent
 }
 
-/// The sent bits of a random train of the case's description.
-fn train(random: &mut Random, case: &Case) -> Vec<u8> {
-    let octets = random.octets(case.n as usize / 8);
-    let mut sent = vec![0; case.size().sent];
-    assert_eq!(encode(case.mode, case.counter, case.n, case.a, &octets, &mut sent), 0);
+/// The sent bits of a random train of this description.
+fn train(random: &mut Random, train: &Description) -> Vec<u8> {
+    let (size, Description { count, modes, lengths, counter, a }) = (train.size(), train);
+    let (octets, mut sent) = (random.octets(size.n / 8), vec![0; size.sent]);
+    assert_eq!(encode(*count, modes, lengths, *counter, *a, &octets, &mut sent), 0);
     sent
 }
 
 /// Soft bytes of a train with noise, or of none: random, of one size, with many ties.
-fn soft_bytes(random: &mut Random, case: &Case) -> Vec<i8> {
-    let sent = train(random, case);
+fn soft_bytes(random: &mut Random, described: &Description) -> Vec<i8> {
+    let sent = train(random, described);
     let (level, noise) = (random.pick(&[1, 2, 8, 24, 80]), random.pick(&[0, 1, 4, 12, 30]));
     let (size, end) = (random.pick(&[1, 1, 2, 16, 80]), random.pick(&[1, 8, 80]));
     let kind = random.below(10);
@@ -141,29 +103,33 @@ pub fn with_noise(random: &mut Random, ideal: &[i16], strength: i32) -> Vec<i16>
 
 /// A random call.
 pub fn random_case(random: &mut Random, call: Call) -> Case {
-    let mode = 1 + random.below(7) as u32;
-    let mut case = Case::new(call, description(random, mode));
+    let mut case = Case::new(call, trains::any(random));
     match call {
         Call::Encode => encode_case(random, &mut case),
         Call::Ideal => ideal_case(random, &mut case),
-        Call::Mapped => case.group = random.pick(&[0, 1, 2, 3, 4, 15, 16, 17, 63, 64, 65, MOST]),
+        Call::Mapped => mapped_case(random, &mut case),
         Call::Soften => soften_case(random, &mut case),
         Call::DecodeSoft => decode_soft_case(random, &mut case),
         Call::DecodeReadings => decode_readings_case(random, &mut case),
     }
-    damage(random, &mut case);
+    trains::damage(random, &mut case.train);
     case
 }
 
+fn mapped_case(random: &mut Random, case: &mut Case) {
+    case.mode = random.below(9) as u32;
+    case.group = random.pick(&[0, 1, 2, 3, 4, 15, 16, 17, 63, 64, 65, MOST]);
+}
+
 fn encode_case(random: &mut Random, case: &mut Case) {
-    let size = case.size();
+    let size = case.train.size();
     let (octets, room) = (exact(random, size.n / 8), enough(random, size.sent));
     case.octets = Lent::random(random, octets);
     case.sent = Lent::random(random, room);
 }
 
 fn ideal_case(random: &mut Random, case: &mut Case) {
-    let size = case.size();
+    let size = case.train.size();
     let (bits, count) = (sent_bits(random, size.sent), exact(random, size.sent));
     let (on_i, on_q) = (enough(random, size.carriers), enough(random, size.carriers));
     case.sent = Lent::holding(random, &bits, count);
@@ -173,12 +139,12 @@ fn ideal_case(random: &mut Random, case: &mut Case) {
 
 fn soften_case(random: &mut Random, case: &mut Case) {
     readings_in(random, case);
-    let room = enough(random, case.size().sent);
+    let room = enough(random, case.train.size().sent);
     case.soft = Lent::random(random, room);
 }
 
 fn decode_soft_case(random: &mut Random, case: &mut Case) {
-    let soft = soft_bytes(random, case);
+    let soft = soft_bytes(random, &case.train);
     let count = exact(random, soft.len());
     case.soft = Lent::holding(random, &soft, count);
     train_out(random, case);
@@ -190,7 +156,7 @@ fn decode_readings_case(random: &mut Random, case: &mut Case) {
 }
 
 fn readings_in(random: &mut Random, case: &mut Case) {
-    let carriers = case.size().carriers;
+    let carriers = case.train.size().carriers;
     let (i, q) = (readings(random, carriers), readings(random, carriers));
     let (on_i, on_q) = (exact(random, carriers), exact(random, carriers));
     case.i = Lent::holding(random, &i, on_i);
@@ -198,7 +164,7 @@ fn readings_in(random: &mut Random, case: &mut Case) {
 }
 
 fn train_out(random: &mut Random, case: &mut Case) {
-    let n = case.size().n;
+    let n = case.train.size().n;
     let (octets, words) = (enough(random, n / 8), enough(random, n + 6));
     case.octets = Lent::random(random, octets);
     case.words = Lent::random(random, words);

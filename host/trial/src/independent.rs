@@ -1,5 +1,5 @@
-//! The six calls once more, slow and obvious, written from document 01 alone: no code, table or definition comes from
-//! the proved crates. Each takes and answers what the library's call does.
+//! The six calls once more, slow and obvious, written from document 01 and the request for lists of PDUs alone: no
+//! code, table or definition comes from the proved crates. Each takes and answers what the library's call does.
 pub mod modes;
 mod points;
 mod search;
@@ -23,24 +23,25 @@ fn number(result: Result<(), u32>) -> u32 {
     result.err().unwrap_or(0)
 }
 
-pub fn encode(mode: u32, counter: u32, n: u32, a: u32, octets: &[u8], sent: &mut [u8]) -> u32 {
+pub fn encode(
+    count: u32, modes: &[u32; 16], lengths: &[u32; 16], counter: u32, a: u32, octets: &[u8], sent: &mut [u8],
+) -> u32 {
     number((|| {
-        let size = Size::of(mode, Some(counter), n, Some(a))?;
+        let size = Size::of(count, modes, lengths, Some(counter), Some(a))?;
         unless(7, octets.len() == size.n / 8)?;
         unless(8, sent.len() >= size.sent)?;
-        sent[..size.sent].copy_from_slice(&sending::sent_bits(size.mode, counter, a as usize, octets));
+        sent[..size.sent].copy_from_slice(&sending::sent_bits(&size.pdus, counter, a as usize, octets));
         Ok(())
     })())
 }
 
-pub fn ideal(mode: u32, n: u32, sent: &[u8], i: &mut [i16], q: &mut [i16]) -> u32 {
+pub fn ideal(count: u32, modes: &[u32; 16], lengths: &[u32; 16], sent: &[u8], i: &mut [i16], q: &mut [i16]) -> u32 {
     number((|| {
-        let size = Size::of(mode, None, n, None)?;
+        let size = Size::of(count, modes, lengths, None, None)?;
         unless(7, sent.len() == size.sent)?;
         unless(8, i.len() >= size.carriers && q.len() >= size.carriers)?;
         unless(9, sent.iter().all(|&bit| bit <= 1))?;
-        for (k, group) in sent.chunks(size.mode.carrier).enumerate() {
-            let levels = points::levels(group);
+        for (k, levels) in points::all_levels(size.bits_of_carriers(), sent).into_iter().enumerate() {
             (i[k], q[k]) = (256 * levels[0], 256 * levels[1]);
         }
         Ok(())
@@ -59,21 +60,23 @@ pub fn mapped(mode: u32, group: u32) -> Mapping {
     }
 }
 
-pub fn soften(mode: u32, n: u32, i: &[i16], q: &[i16], soft: &mut [i8]) -> u32 {
+pub fn soften(count: u32, modes: &[u32; 16], lengths: &[u32; 16], i: &[i16], q: &[i16], soft: &mut [i8]) -> u32 {
     number((|| {
-        let size = Size::of(mode, None, n, None)?;
+        let size = Size::of(count, modes, lengths, None, None)?;
         unless(7, i.len() == size.carriers && q.len() == size.carriers)?;
         unless(8, soft.len() >= size.sent)?;
-        soft[..size.sent].copy_from_slice(&points::soft_bytes(size.mode, i, q));
+        soft[..size.sent].copy_from_slice(&points::soft_bytes(size.bits_of_carriers(), i, q));
         Ok(())
     })())
 }
 
+#[allow(clippy::too_many_arguments)]
 pub fn decode_soft(
-    mode: u32, counter: u32, n: u32, a: u32, soft: &[i8], octets: &mut [u8], words: &mut [u64],
+    count: u32, modes: &[u32; 16], lengths: &[u32; 16], counter: u32, a: u32, soft: &[i8], octets: &mut [u8],
+    words: &mut [u64],
 ) -> Answer {
     answer((|| {
-        let size = Size::of(mode, Some(counter), n, Some(a))?;
+        let size = Size::of(count, modes, lengths, Some(counter), Some(a))?;
         unless(7, soft.len() == size.sent)?;
         unless(8, octets.len() >= size.n / 8 && words.len() >= size.n + 6)?;
         unless(9, soft.iter().all(|&byte| (-80..=80).contains(&byte)))?;
@@ -83,13 +86,14 @@ pub fn decode_soft(
 
 #[allow(clippy::too_many_arguments)]
 pub fn decode_readings(
-    mode: u32, counter: u32, n: u32, a: u32, i: &[i16], q: &[i16], octets: &mut [u8], words: &mut [u64],
+    count: u32, modes: &[u32; 16], lengths: &[u32; 16], counter: u32, a: u32, i: &[i16], q: &[i16], octets: &mut [u8],
+    words: &mut [u64],
 ) -> Answer {
     answer((|| {
-        let size = Size::of(mode, Some(counter), n, Some(a))?;
+        let size = Size::of(count, modes, lengths, Some(counter), Some(a))?;
         unless(7, i.len() == size.carriers && q.len() == size.carriers)?;
         unless(8, octets.len() >= size.n / 8 && words.len() >= size.n + 6)?;
-        let soft = points::soft_bytes(size.mode, i, q);
+        let soft = points::soft_bytes(size.bits_of_carriers(), i, q);
         Ok(decoded(&size, counter, a as usize, &soft, octets, words))
     })())
 }
@@ -102,7 +106,7 @@ fn answer(result: Result<Answer, u32>) -> Answer {
 fn decoded(size: &Size, counter: u32, a: usize, soft: &[i8], octets: &mut [u8], words: &mut [u64]) -> Answer {
     let numbers: Vec<[usize; 2]> = (0..size.n + 6).map(|t| [2 * t, 2 * t + 1]).collect();
     let mut heard = vec![[None; 2]; size.n + 6];
-    for (number, &byte) in sending::in_sent_order(size.mode, a, &numbers).into_iter().zip(soft) {
+    for (number, &byte) in sending::in_sent_order(&size.pdus, a, &numbers).into_iter().zip(soft) {
         heard[number / 2][number % 2] = Some(byte);
     }
     let (train, cost) = search::least(&heard);

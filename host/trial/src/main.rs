@@ -1,22 +1,27 @@
 //! Holds libjuzambore.a against an independent implementation, and races it with an ordinary one.
 //!
 //!     trial vectors FILE...          recorded calls, line by line
-//!     trial calls [COUNT [SEED]]     at least COUNT random calls (100,000), and trains through noise
+//!     trial calls [COUNT [SEED]]     at least COUNT random calls (100,000), half of them with lists of several PDUs
 //!     trial agree                    that all agree on the trains of the race
+//!     trial mixed                    the modes and lengths of the race's mixed train
 //!     trial run WHO WHAT MODE COUNT  a job COUNT times, to count its instructions: WHO is proved, ordinary or shape (a
 //!                                    decoder with the proved one's shape), WHAT encode or decode; or proved passes,
-//!                                    which is the decoder's search and mark alone
+//!                                    which is the decoder's search and mark alone; MODE is 1 to 7, mixed, or
+//!                                    one PDU as MODE:LENGTH
 //!     trial times                    nanoseconds of each call in each mode: what, mode, proved, ordinary, shape
 mod calls;
 mod cases;
+mod description;
 mod differ;
 mod gauge;
 mod independent;
+mod ladder;
 mod lent;
 mod ordinary;
 mod random;
 mod speed;
 mod tally;
+mod trains;
 mod vectors;
 
 use std::process::exit;
@@ -36,8 +41,12 @@ fn done(words: &[&str]) -> Option<bool> {
         ["calls", count] => Some(differ::differ(number(count), 1)),
         ["calls", count, seed] => Some(differ::differ(number(count), number(seed))),
         ["agree"] => Some(speed::agree()),
+        ["mixed"] => {
+            speed::print_mixed();
+            Some(true)
+        }
         ["run", who, what, mode, count] => {
-            speed::run(who, what, number(mode), number(count));
+            speed::run(who, what, mode, number(count));
             Some(true)
         }
         ["times"] => {
@@ -52,7 +61,7 @@ fn main() {
     let words: Vec<String> = std::env::args().skip(1).collect();
     let words: Vec<&str> = words.iter().map(String::as_str).collect();
     let good = done(&words).unwrap_or_else(|| {
-        eprintln!("trial vectors FILE... | calls [COUNT [SEED]] | agree | run WHO WHAT MODE COUNT | times");
+        eprintln!("trial vectors FILE... | calls [COUNT [SEED]] | agree | mixed | run WHO WHAT MODE COUNT | times");
         false
     });
     exit(i32::from(!good));

@@ -1,5 +1,5 @@
-//! An ordinary encoder and decoder of one train, without proofs: the yardstick for the speed of the proved ones. It
-//! takes the same parameters and gives the same refusals. The decoder has two hearts: an ordinary one, and one in the
+//! An ordinary encoder and decoder of trains, without proofs: the yardstick for the speed of the proved ones. It takes
+//! the same parameters and gives the same refusals. The decoder has two hearts: an ordinary one, and one in the
 //! shape of the proved one.
 #[path = "../../search/same_shape.rs"]
 mod same_shape;
@@ -7,6 +7,7 @@ mod same_shape;
 mod search;
 
 use juzambore::Answer;
+use std::ops::Range;
 
 const MOST: usize = 3456;
 
@@ -62,21 +63,70 @@ impl Mode {
     }
 }
 
-fn refusal(mode: u32, counter: u32, n: u32, a: u32) -> u32 {
-    if !(1..=7).contains(&mode) {
-        1
-    } else if counter > 15 {
-        2
-    } else if !(72..=MOST as u32).contains(&n) {
-        3
-    } else if n % 8 != 0 {
-        4
-    } else if n as usize % MODES[mode as usize - 1].info != 0 {
-        5
-    } else if a > n - 72 {
-        6
+/// A good description: the PDUs' modes and lengths, and the train's counts.
+pub struct Train<'a> {
+    modes: &'a [u32],
+    lengths: &'a [u32],
+    n: usize,
+    symbols: usize,
+    sent: usize,
+}
+
+/// What its description says of a train, or its refusal.
+pub fn described<'a>(
+    count: u32, modes: &'a [u32; 16], lengths: &'a [u32; 16], counter: u32, a: u32,
+) -> Result<Train<'a>, u32> {
+    if !(1..=16).contains(&count) {
+        return Err(11);
+    }
+    let (modes, lengths) = (&modes[..count as usize], &lengths[..count as usize]);
+    if modes.iter().any(|mode| !(1..=7).contains(mode)) {
+        return Err(1);
+    }
+    if counter > 15 {
+        return Err(2);
+    }
+    let mut train = Train { modes, lengths, n: 0, symbols: 0, sent: 0 };
+    for (m, length) in train.pdus() {
+        let symbols = symbols_of(m, length)?;
+        train.n += length;
+        train.symbols += symbols;
+        train.sent += symbols * m.sent;
+    }
+    match train.n {
+        n if n > MOST => Err(3),
+        n if a as usize > n - 72 => Err(6),
+        _ => Ok(train),
+    }
+}
+
+/// The symbols of a PDU, or the refusal of its own length.
+fn symbols_of(m: &Mode, length: usize) -> Result<usize, u32> {
+    if !(72..=MOST).contains(&length) {
+        Err(3)
+    } else if length % 8 != 0 {
+        Err(4)
+    } else if length % m.info != 0 {
+        Err(5)
     } else {
-        0
+        Ok(length / m.info)
+    }
+}
+
+impl<'a> Train<'a> {
+    fn pdus(&self) -> impl Iterator<Item = (&'static Mode, usize)> + 'a {
+        self.modes.iter().zip(self.lengths).map(|(&mode, &length)| (&MODES[mode as usize - 1], length as usize))
+    }
+
+    /// Of each PDU its mode, and where its share of P1's output and its sent bits are.
+    fn shares(&self) -> impl Iterator<Item = (&'static Mode, Range<usize>, Range<usize>)> + 'a {
+        let (mut coded, mut sent) = (0, 0);
+        self.pdus().map(move |(m, length)| {
+            let (from, to) = (coded, sent);
+            coded += 2 * length;
+            sent += length / m.info * m.sent;
+            (m, from..coded, to..sent)
+        })
     }
 }
 
@@ -92,22 +142,24 @@ fn kept_by_p1(a: usize, t: usize) -> (bool, bool) {
     (within != 6, within != 12)
 }
 
-pub fn encode(mode: u32, counter: u32, n: u32, a: u32, octets: &[u8], sent: &mut [u8]) -> u32 {
-    let refused = refusal(mode, counter, n, a);
-    if refused != 0 {
-        return refused;
-    }
-    let m = &MODES[mode as usize - 1];
-    let (n, a) = (n as usize, a as usize);
-    if octets.len() != n / 8 {
+pub fn encode(
+    count: u32, modes: &[u32; 16], lengths: &[u32; 16], counter: u32, a: u32, octets: &[u8], sent: &mut [u8],
+) -> u32 {
+    let train = match described(count, modes, lengths, counter, a) {
+        Ok(train) => train,
+        Err(refusal) => return refusal,
+    };
+    if octets.len() != train.n / 8 {
         return 7;
     }
-    if sent.len() < n / m.info * m.sent {
+    if sent.len() < train.sent {
         return 8;
     }
     let mut coded = [0u8; 2 * MOST];
-    code(counter, n, a, octets, &mut coded);
-    send(m, &coded[..2 * n], sent);
+    code(counter, train.n, a as usize, octets, &mut coded);
+    for (m, share, place) in train.shares() {
+        send(m, &coded[share], &mut sent[place]);
+    }
     0
 }
 
@@ -154,53 +206,57 @@ fn refused(refusal: u32) -> Answer {
 
 type Heart = (fn(usize, &[u8], &mut [u8], &mut [u64]) -> u32, fn(usize, &[u8], &[u8]) -> bool);
 
+#[allow(clippy::too_many_arguments)]
 pub fn decode_soft(
-    mode: u32, counter: u32, n: u32, a: u32, soft: &[i8], octets: &mut [u8], words: &mut [u64],
+    count: u32, modes: &[u32; 16], lengths: &[u32; 16], counter: u32, a: u32, soft: &[i8], octets: &mut [u8],
+    words: &mut [u64],
 ) -> Answer {
-    decode_by((search::search, search::mark), [mode, counter, n, a], soft, octets, words)
+    let train = described(count, modes, lengths, counter, a);
+    decode_by((search::search, search::mark), train, counter, a, soft, octets, words).unwrap_or_else(refused)
 }
 
+#[allow(clippy::too_many_arguments)]
 pub fn decode_in_same_shape(
-    mode: u32, counter: u32, n: u32, a: u32, soft: &[i8], octets: &mut [u8], words: &mut [u64],
+    count: u32, modes: &[u32; 16], lengths: &[u32; 16], counter: u32, a: u32, soft: &[i8], octets: &mut [u8],
+    words: &mut [u64],
 ) -> Answer {
-    decode_by((same_shape::search, same_shape::mark), [mode, counter, n, a], soft, octets, words)
+    let train = described(count, modes, lengths, counter, a);
+    decode_by((same_shape::search, same_shape::mark), train, counter, a, soft, octets, words).unwrap_or_else(refused)
 }
 
 fn decode_by(
-    (search, mark): Heart, [mode, counter, n, a]: [u32; 4], soft: &[i8], octets: &mut [u8], words: &mut [u64],
-) -> Answer {
-    let number = refusal(mode, counter, n, a);
-    if number != 0 {
-        return refused(number);
-    }
-    let m = &MODES[mode as usize - 1];
-    let (n, a) = (n as usize, a as usize);
-    let symbols = n / m.info;
-    if soft.len() != symbols * m.sent {
-        return refused(7);
+    (search, mark): Heart, train: Result<Train, u32>, counter: u32, a: u32, soft: &[i8], octets: &mut [u8],
+    words: &mut [u64],
+) -> Result<Answer, u32> {
+    let train = train?;
+    let n = train.n;
+    if soft.len() != train.sent {
+        return Err(7);
     }
     if octets.len() < n / 8 || words.len() < n + 6 {
-        return refused(8);
+        return Err(8);
     }
     if soft.iter().any(|byte| byte.unsigned_abs() > 80) {
-        return refused(9);
+        return Err(9);
     }
-    let heard = &spread(mode, n, a, soft)[..2 * (n + 6)];
-    let mut train = [0u8; MOST];
-    let train = &mut train[..n];
-    let cost = search(n, heard, train, &mut words[..n + 6]);
-    let confirmed = mark(n, heard, train);
-    descramble(counter, train, octets);
-    Answer { refusal: 0, symbols: symbols as u32, n: soft.len() as u32, cost, confirmed }
+    let heard = &spread(&train, a as usize, soft)[..2 * (n + 6)];
+    let mut found = [0u8; MOST];
+    let found = &mut found[..n];
+    let cost = search(n, heard, found, &mut words[..n + 6]);
+    let confirmed = mark(n, heard, found);
+    descramble(counter, found, octets);
+    Ok(Answer { refusal: 0, symbols: train.symbols as u32, n: soft.len() as u32, cost, confirmed })
 }
 
 /// The soft bytes by their coded bits, X and Y of each input, counted from -128; 0 is a bit not sent.
-pub fn spread(mode: u32, n: usize, a: usize, soft: &[i8]) -> [u8; 2 * (MOST + 6)] {
+pub fn spread(train: &Train, a: usize, soft: &[i8]) -> [u8; 2 * (MOST + 6)] {
     let mut coded = [0u8; 2 * MOST];
-    receive(&MODES[mode as usize - 1], soft, &mut coded[..2 * n]);
+    for (m, share, place) in train.shares() {
+        receive(m, &soft[place], &mut coded[share]);
+    }
     let mut heard = [0; 2 * (MOST + 6)];
     let (mut even, mut odd) = (0, 1);
-    for (t, pair) in heard.chunks_exact_mut(2).take(n + 6).enumerate() {
+    for (t, pair) in heard.chunks_exact_mut(2).take(train.n + 6).enumerate() {
         let (keeps_x, keeps_y) = kept_by_p1(a, t);
         if keeps_x {
             pair[0] = coded[even];

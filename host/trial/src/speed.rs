@@ -1,7 +1,7 @@
-//! The proved calls and the others on the same trains of 3,456 bits: that they agree, runs whose instructions can be
-//! counted, and times.
+//! The proved calls and the others on the same trains of 3,456 bits, of one PDU in each mode and of sixteen in all of
+//! them: that they agree, runs whose instructions can be counted, also of a single PDU, and times.
 use crate::calls::{DecodeSoft, Encode};
-use crate::independent::modes::Size;
+use crate::description::Description;
 use crate::random::Random;
 use crate::{gauge, ordinary};
 use std::hint::black_box;
@@ -13,9 +13,42 @@ const A: u32 = 72;
 const TRAINS: u64 = 4;
 const ROUNDS: usize = 200;
 
+/// The mixed train, N bits in all: the mode and the length of each PDU. P1 lies across the first two.
+const MIXED: [(u32, u32); 16] = [
+    (1, 120),
+    (1, 216),
+    (2, 216),
+    (3, 192),
+    (4, 216),
+    (5, 216),
+    (6, 288),
+    (7, 216),
+    (7, 216),
+    (6, 288),
+    (5, 216),
+    (4, 216),
+    (3, 192),
+    (2, 216),
+    (1, 216),
+    (7, 216),
+];
+
+/// The trains of the race by their names: a mode's number, or `mixed`.
+const NAMES: [&str; 8] = ["1", "2", "3", "4", "5", "6", "7", "mixed"];
+
+/// A train by its name: these, or a PDU by its mode and length, as `5:216`, for which P1 begins with the train.
+fn named(name: &str) -> Description {
+    let number = |word: &str| word.parse().expect("a mode, MODE:LENGTH or `mixed`");
+    match name.split_once(':') {
+        Some((mode, length)) => Description::of(&[(number(mode), number(length))], COUNTER, 0),
+        None if name == "mixed" => Description::of(&MIXED, COUNTER, A),
+        None => Description::of(&[(number(name), N)], COUNTER, A),
+    }
+}
+
 /// A train with its noisy soft bytes, and the buffers to lend.
 struct Desk {
-    mode: u32,
+    train: Description,
     octets: Vec<u8>,
     soft: Vec<i8>,
     heard: Vec<u8>,
@@ -25,39 +58,44 @@ struct Desk {
 }
 
 impl Desk {
-    fn new(mode: u32, seed: u64) -> Desk {
+    fn new(name: &str, seed: u64) -> Desk {
         let random = &mut Random::new(seed);
-        let octets = random.octets(N as usize / 8);
-        let size = Size::of(mode, None, N, None).expect("a mode");
-        let mut sent = vec![0; size.sent];
-        assert_eq!(juzambore::encode(mode, COUNTER, N, A, &octets, &mut sent), 0);
+        let train = named(name);
+        let n = train.size().n;
+        let octets = random.octets(n / 8);
+        let Description { count, modes, lengths, a, .. } = &train;
+        let mut sent = vec![0; train.size().sent];
+        assert_eq!(juzambore::encode(*count, modes, lengths, COUNTER, *a, &octets, &mut sent), 0);
         let noisy = |&bit: &u8| ((if bit == 1 { 24 } else { -24 }) + random.noise(10)).clamp(-80, 80) as i8;
         let soft: Vec<i8> = sent.iter().map(noisy).collect();
-        let heard = ordinary::spread(mode, N as usize, A as usize, &soft).to_vec();
-        Desk { mode, octets, soft, heard, sent, found: vec![0; N as usize], words: vec![0; N as usize + 6] }
+        let described = ordinary::described(*count, modes, lengths, COUNTER, *a).expect("a good description");
+        let heard = ordinary::spread(&described, *a as usize, &soft).to_vec();
+        Desk { train, octets, soft, heard, sent, found: vec![0; n], words: vec![0; n + 6] }
     }
 
     /// An encode with the buffer cleared first.
     fn encode(&mut self, by: Encode) -> u32 {
+        let Description { count, modes, lengths, a, .. } = black_box(&self.train);
         self.sent.fill(0);
-        let refusal = by(black_box(self.mode), COUNTER, black_box(N), black_box(A), &self.octets, &mut self.sent);
+        let refusal = by(*count, modes, lengths, COUNTER, *a, &self.octets, &mut self.sent);
         black_box(&self.sent);
         refusal
     }
 
     /// A decode with the buffers cleared first: twice its cost, and 1 more if it is confirmed.
     fn decode(&mut self, by: DecodeSoft) -> u32 {
-        let (octets, words) = (&mut self.found[..N as usize / 8], &mut self.words[..]);
+        let Description { count, modes, lengths, a, .. } = black_box(&self.train);
+        let (octets, words) = (&mut self.found[..self.octets.len()], &mut self.words[..]);
         octets.fill(0);
         words.fill(0);
-        let answer = by(black_box(self.mode), COUNTER, black_box(N), black_box(A), &self.soft, octets, words);
+        let answer = by(*count, modes, lengths, COUNTER, *a, &self.soft, octets, words);
         black_box((octets, words));
         2 * answer.cost + u32::from(answer.confirmed)
     }
 
     /// The proved search and mark on the same soft bytes, with the same clearing.
     fn passes(&mut self) -> u32 {
-        self.found[..N as usize / 8].fill(0);
+        self.found[..self.octets.len()].fill(0);
         self.words.fill(0);
         let cost = gauge::search(N, &self.heard, &mut self.found, &mut self.words);
         2 * cost + gauge::mark(N, &self.heard, &self.found)
@@ -95,17 +133,22 @@ fn is_fair(desk: &mut Desk) -> bool {
 }
 
 pub fn agree() -> bool {
-    let desks = (1..=7).flat_map(|mode| (0..TRAINS).map(move |seed| Desk::new(mode, seed)));
+    let desks = NAMES.into_iter().flat_map(|name| (0..TRAINS).map(move |seed| Desk::new(name, seed)));
     let fair: Vec<bool> = desks.map(|mut desk| is_fair(&mut desk)).collect();
     let good = fair.iter().filter(|&&fair| fair).count();
     println!("{good} of {} noisy trains for the race come back as sent and confirmed from all decoders", fair.len());
     good == fair.len()
 }
 
+/// Prints the mode and the length of each PDU of the mixed train.
+pub fn print_mixed() {
+    MIXED.iter().for_each(|(mode, length)| println!("{mode} {length}"));
+}
+
 /// One job so many times, to count its instructions.
-pub fn run(who: &str, what: &str, mode: u32, count: usize) {
+pub fn run(who: &str, what: &str, name: &str, count: usize) {
     let job = job(who, what).unwrap_or_else(|| panic!("no job {who} {what}"));
-    let desk = &mut Desk::new(mode, 0);
+    let desk = &mut Desk::new(name, 0);
     let sum: u32 = (0..count).map(|_| job(desk)).sum();
     println!("{sum}");
 }
@@ -119,16 +162,16 @@ fn time(desks: &mut [Desk], job: Job) -> u64 {
     start.elapsed().as_nanos() as u64 / desks.len() as u64
 }
 
-/// Prints for each call and mode the least nanoseconds of each racer, taken in turn; 0 for one without the call.
+/// Prints for each call and train the least nanoseconds of each racer, taken in turn; 0 for one without the call.
 pub fn times() {
-    for (what, mode) in ["encode", "decode"].into_iter().flat_map(|what| (1..=7).map(move |mode| (what, mode))) {
-        let mut desks: Vec<Desk> = (0..TRAINS).map(|seed| Desk::new(mode, seed)).collect();
+    for (what, name) in ["encode", "decode"].into_iter().flat_map(|what| NAMES.map(|name| (what, name))) {
+        let mut desks: Vec<Desk> = (0..TRAINS).map(|seed| Desk::new(name, seed)).collect();
         let mut least = [u64::MAX; RACERS.len()];
         for _ in 0..ROUNDS {
             for (least, who) in least.iter_mut().zip(RACERS) {
                 *least = job(who, what).map_or(0, |job| time(&mut desks, job).min(*least));
             }
         }
-        println!("{what} {mode} {} {} {}", least[0], least[1], least[2]);
+        println!("{what} {name} {} {} {}", least[0], least[1], least[2]);
     }
 }

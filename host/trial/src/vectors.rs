@@ -1,8 +1,10 @@
 //! Recorded calls, line by line, by every implementation: the library, the independent and the ordinary one.
 //!
-//! A line of `encode` is: kind, mode, counter, N, a, octets in hex, sent bits. A line of `decode_soft` is: kind, mode,
-//! counter, N, a, soft bytes, `=`, refusal, symbols, n, cost, mark (C, D or -), octets in hex.
+//! A line of `encode` is: kind, modes, counter, lengths, a, octets in hex, sent bits. A line of `decode_soft` is: kind,
+//! modes, counter, lengths, a, soft bytes, `=`, refusal, symbols, n, cost, mark (C, D or -), octets in hex. Modes and
+//! lengths are numbers with commas between them, one for each PDU.
 use crate::calls::{Call, Case, Told, INDEPENDENT, LIBRARY, ORDINARY};
+use crate::description::Description;
 use crate::lent::Lent;
 use crate::random::Random;
 use juzambore::Answer;
@@ -24,8 +26,10 @@ fn octets_of(hex: &str) -> Vec<u8> {
     (0..hex.len()).step_by(2).map(|k| u8::from_str_radix(&hex[k..k + 2], 16).expect("an octet")).collect()
 }
 
-fn described(words: &[&str]) -> [u32; 4] {
-    [1, 2, 3, 4].map(|k| number(words[k]))
+fn described(words: &[&str]) -> Description {
+    let pdus = words[1].split(',').zip(words[3].split(','));
+    let pdus: Vec<(u32, u32)> = pdus.map(|(mode, length)| (number(mode), number(length))).collect();
+    Description::of(&pdus, number(words[2]), number(words[4]))
 }
 
 fn encode_line(line: &str) -> Recorded {
@@ -45,8 +49,9 @@ fn decode_line(call: &str, answer: &str) -> Recorded {
     let soft: Vec<i8> = words[5..].iter().map(|word| word.parse().expect("a soft byte")).collect();
     let mut case = Case::new(Call::DecodeSoft, described(&words));
     case.soft = Lent::holding(random, &soft, soft.len());
-    case.octets = Lent::random(random, case.n as usize / 8);
-    case.words = Lent::random(random, case.n as usize + 6);
+    let n = case.train.size().n;
+    case.octets = Lent::random(random, n / 8);
+    case.words = Lent::random(random, n + 6);
     let said: Vec<&str> = answer.split(' ').collect();
     let [refusal, symbols, n, cost] = [0, 1, 2, 3].map(|k| number(said[k]));
     let told = Told::Decoded(Answer { refusal, symbols, n, cost, confirmed: said[4] == "C" });
@@ -56,12 +61,13 @@ fn decode_line(call: &str, answer: &str) -> Recorded {
 /// Runs the lines of a file; whether all give what is recorded.
 pub fn agree(path: &str) -> bool {
     let text = fs::read_to_string(path).unwrap_or_else(|error| panic!("{path}: {error}"));
-    let mut wrong = 0;
+    let (mut wrong, mut lists) = (0, 0);
     for (number, line) in text.lines().enumerate() {
         let recorded = match line.split_once(" = ") {
             Some((call, answer)) => decode_line(call, answer),
             None => encode_line(line),
         };
+        lists += usize::from(recorded.case.train.is_mixed());
         for (name, by) in [("library", &LIBRARY), ("independent", &INDEPENDENT), ("ordinary", &ORDINARY)] {
             let mut case = recorded.case.clone();
             let told = case.run(by);
@@ -73,6 +79,6 @@ pub fn agree(path: &str) -> bool {
         }
     }
     let lines = text.lines().count();
-    println!("{path}: {lines} lines by the library, the independent and the ordinary one: {wrong} differences");
+    println!("{path}: {lines} lines, {lists} with several PDUs, by the library and both others: {wrong} differences");
     wrong == 0 && lines > 0
 }

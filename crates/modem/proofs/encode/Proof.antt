@@ -1,67 +1,88 @@
--- `modem::encode` keeps its promise, test by test (EncodeLaws).
+-- `modem::encode` keeps its promise, test by test (LentLaws).
 -- Assumes nothing.
-use mathlib.Core.Path.{_≡_, refl, sym, _∙_, ap}
-use Prim.Native.Nat.{ℕ, _/_}
+use mathlib.Core.Path.{_≡_, sym, _∙_}
+use mathlib.Core.Bool.{false, not}
+use mathlib.Core.List.{List}
 use native.Mathlib.Omega.{arith}
-use Rattle.modes.specs.Sizes.{octetsOf}
-use Rattle.modem.proofs.PassedLaws.{Passed, passed, passed-sent}
-use Rattle.modem.proofs.EncodeLaws.{same-sent, encode-1-to-6, encode-7, encode-8, encode-done}
+use lib.Dec.{ltb, eqb}
+use lib.ListN.{length}
 use borrow.Author.Needs.{needs}
+use borrow.Author.Tests.{eqb-true, ltb-false, not-false}
+use Rattle.laws.specs.Ladder.{ladder}
+use Rattle.modes.specs.Sizes.{octetsOf}
+use Rattle.modes.specs.Pdus.{Pdu, pdusOf, lengthOf, sentOf}
+use Rattle.modes.proofs.RefusalLaws.{list-legal}
+use Rattle.modem.specs.Lent.{lent}
+use Rattle.modem.specs.Encode.{encodeRefusal, Encode}
+use Rattle.modem.proofs.LentLaws.{lent-passed, described-refused, lent-refused, all-done}
+use Rattle.modem.proofs.PassedLaws.{Tallied, Passed, passed, tallied, passed-sent}
 use Rattle.modem.proofs.encode.Statement.{statement}
 use Rattle.modem.proofs.encode.Tie as tie
 
--- the function's entry, and what is known once the description has passed
+-- the function's entry and its list, what is known once that has passed, and the counts
+abbrev list : tie.Start → List Pdu
+list c = pdusOf (c .args .count) (c .args .modes .now) (c .args .lengths .now)
+
 abbrev entry : tie.After-train-of → tie.Start
 entry c = c .before .before .before .before .before
 
-known : (c : tie.After-train-of) → Passed (entry c .args .mode) (entry c .args .counter) (entry c .args .n) (entry c .args .a) (c .train-of .result)
-known c = passed _ _ _ _ _ (sym (c .before .before .refusal .ensures) ∙ c .before .if1 .left) (c .train-of .ensures)
+known : (c : tie.After-train-of) → Passed (list (entry c)) (entry c .args .counter) (entry c .args .a) (c .train-of .result)
+known c = passed _ _ _ _ (sym (c .before .before .refusal .ensures) ∙ c .before .if1 .left) (c .train-of .ensures)
 
-same-octets : (c : tie.After-train-of) → c .train-of .result .n / 8 ≡ octetsOf (entry c .args .n)
+counted : (c : tie.After-counts-of) → Tallied (list (entry (c .before))) (c .counts-of .result .n) (c .counts-of .result .symbols) (c .counts-of .result .sent)
+counted c = tallied _ _ _ _ _ (known (c .before) .holds .list-is) (c .counts-of .ensures)
+
+-- what was tested for the counts was tested for the list
+late : (c : tie.After-lent-refusal)
+    → c .lent-refusal .result
+    ≡ ladder
+    (lent
+    (not (eqb (length (entry (c .before .before .before) .args .octets .now)) (octetsOf (lengthOf (list (entry (c .before .before .before)))))))
+    (ltb (length (entry (c .before .before .before) .args .sent .now)) (sentOf (list (entry (c .before .before .before)))))
+    false)
 unfolding octetsOf
-same-octets c = ap (λ (n : ℕ). n / 8) (known c .holds .n-is)
+late c =
+    let count = counted (c .before .before) in
+    rw (← count .n-is, ← count .sent-is) (c .lent-refusal .ensures)
 
 refusal-requires : tie.Need-refusal-requires
 refusal-requires c κs = search needs
 
 returns : tie.Need-returns
-returns c = encode-1-to-6 _ _ _ _ _ _ _ (c .before .refusal .ensures) (c .if1 .taken)
+unfolding Encode encodeRefusal
+returns c = described-refused _ _ _ _ _ _ _ (c .before .refusal .ensures) (c .if1 .taken)
 
 train-of-requires : tie.Need-train-of-requires
-train-of-requires c κs = search needs
+train-of-requires c κs = list-legal _ _ _ (sym (c .before .refusal .ensures) ∙ c .if1 .left) .fit
+
+counts-of-requires : tie.Need-counts-of-requires
+counts-of-requires c κs = known c .made .fit
+
+lent-refusal-requires : tie.Need-lent-refusal-requires
+lent-refusal-requires c κs = search needs
 
 returns-2 : tie.Need-returns-2
-returns-2 c = encode-7 _ _ _ _ _ _ (known (c .before .before) .zero) (λ e. c .if2 .taken (e ∙ sym (same-octets (c .before .before))))
-
-sent-bits-requires : tie.Need-sent-bits-requires
-sent-bits-requires c κs = known (c .before .before) .made .fit
-
-returns-3 : tie.Need-returns-3
-returns-3 c =
-    let at = c .before .before .before .before in
-    encode-8 _ _ _ _ _ _ (known at .zero) (c .before .before .if2 .left ∙ same-octets at)
-    (omega (arith, c .before .sent-bits .ensures ∙ passed-sent _ _ _ _ _ (known at)))
+unfolding Encode encodeRefusal
+returns-2 c = lent-refused _ _ _ _ _ _ (known (c .before .before .before .before) .zero) _ (late (c .before)) (c .if2 .taken)
 
 send-requires : tie.Need-send-requires
+unfolding octetsOf
 send-requires c κs =
-    let at = c .before .before .before .before .before in (
-      known at .made,
-      (
-        c .before .before .before .if2 .left ∙ (unfold octetsOf in refl),
-        rw (c .before .before .sent-bits .ensures) at (c .before .if3 .left),
-      ),
+    let at = c .before .before .before .before .before in
+    let (wrong, short, _) = lent-passed _ _ _ (sym (c .before .before .lent-refusal .ensures) ∙ c .before .if2 .left) in (
+      (known at .made, c .before .before .before .before .counts-of .ensures .0),
+      (eqb-true _ _ (not-false _ wrong), omega (arith, c .before .before .before .before .counts-of .ensures .2, ltb-false (length (entry at .args .sent .now)) (c .before .before .before .before .counts-of .result .sent) short)),
     )
 
 same-length : tie.Need-same-length
 same-length c = search needs
 
-returns-4 : tie.Need-returns-4
-returns-4 c =
+returns-3 : tie.Need-returns-3
+unfolding Encode encodeRefusal
+returns-3 c =
     let at = c .before .before .before .before .before .before .before .before in
-    let d = at .train-of .ensures in
-    encode-done _ _ _ _ _ _ (known at .zero) _ (c .before .before .before .before .before .before .if2 .left ∙ same-octets at)
-    (omega (arith, c .before .before .before .before .before .sent-bits .ensures ∙ passed-sent _ _ _ _ _ (known at)))
-    (c .before .before .send .ensures ∙ same-sent _ _ _ _ _ _ _ _ _ _ (known at .same-mode) (d .counter-is) (d .n-is) (d .a-is))
+    all-done _ _ _ _ _ _ (known at .zero) (sym (late (c .before .before .before .before .before)) ∙ c .before .before .before .before .if2 .left) _
+    (passed-sent _ _ _ _ (known at) _ _ _ (c .before .before .send .ensures))
 
 pub encode-spec : {M : Type 1} → statement M
 encode-spec =
@@ -70,9 +91,9 @@ encode-spec =
     refusal-requires
     returns
     train-of-requires
+    counts-of-requires
+    lent-refusal-requires
     returns-2
-    sent-bits-requires
-    returns-3
     send-requires
     same-length
-    returns-4)
+    returns-3)

@@ -1,89 +1,88 @@
--- `modem::ideal` keeps its promise, test by test (IdealLaws).
+-- `modem::ideal` keeps its promise, test by test (LentLaws).
 -- Assumes nothing.
-use mathlib.Core.Path.{_≡_, sym, _∙_, ap₂}
-use Prim.Native.Nat.{ℕ, _*_}
+use mathlib.Core.Path.{_≡_, sym, _∙_, ap}
+use mathlib.Core.Bool.{not, _||_}
+use mathlib.Core.List.{List}
 use native.Mathlib.Omega.{arith}
+use lib.Dec.{ltb, eqb}
 use lib.ListN.{length}
-use borrow.Author.Tests.{not-true, not-false}
-use Rattle.laws.specs.Lists.{filled}
-use Rattle.modes.specs.declared.Constellation.{Constellation}
-use Rattle.points.specs.Points.{idealI, idealQ}
-use Rattle.modes.specs.Modes.{bitsOf, constellationOf}
-use Rattle.modes.specs.Sizes.{carriers, sentBits}
-use Rattle.modem.proofs.PassedLaws.{SizedPassed, sized-passed, sized-sent, sized-carriers}
-use Rattle.modem.proofs.IdealLaws.{ideal-1-to-5, ideal-7, ideal-8-i, ideal-8-q, ideal-9, ideal-done, carriers-exact}
 use borrow.Author.Needs.{needs}
+use borrow.Author.Tests.{eqb-true, not-false}
+use Rattle.laws.specs.Ladder.{ladder}
+use Rattle.modes.specs.Pdus.{Pdu, pdusOf, carriersOf, sentOf}
+use Rattle.modes.proofs.RefusalLaws.{list-fit}
+use Rattle.points.specs.Levels.{allBits}
+use Rattle.modem.specs.Lent.{lent}
+use Rattle.modem.specs.Ideal.{idealRefusal, Ideal}
+use Rattle.modem.proofs.LentLaws.{enough-room, lent-passed, described-refused, lent-refused, all-done}
+use Rattle.modem.proofs.PassedLaws.{Tallied, SizedPassed, sized-passed, tallied, tallied-small, passed-read}
 use Rattle.modem.proofs.ideal.Statement.{statement}
 use Rattle.modem.proofs.ideal.Tie as tie
 
--- the function's entry, and what is known once mode and length have passed
-abbrev entry : tie.After-mode-of → tie.Start
+-- the function's entry and its list, what is known once that has passed, and the counts
+abbrev list : tie.Start → List Pdu
+list c = pdusOf (c .args .count) (c .args .modes .now) (c .args .lengths .now)
+
+abbrev entry : tie.After-train-of → tie.Start
 entry c = c .before .before .before .before
 
-known : (c : tie.After-mode-of) → SizedPassed (entry c .args .mode) (entry c .args .n) (c .mode-of .result)
-known c = sized-passed _ _ _ (sym (c .before .before .sized-refusal .ensures) ∙ c .before .if1 .left) (c .mode-of .ensures)
+known : (c : tie.After-train-of) → SizedPassed (list (entry c)) (c .train-of .result)
+known c = sized-passed _ _ _ _ (sym (c .before .before .sized-refusal .ensures) ∙ c .before .if1 .left) (c .train-of .ensures)
 
--- the sent bits were counted right, and so were the carriers
-counted : (c : tie.After-sent-bits) → c .sent-bits .result ≡ sentBits (entry (c .before) .args .mode) (entry (c .before) .args .n)
-counted c = c .sent-bits .ensures ∙ sized-sent _ _ _ (known (c .before))
+counted : (c : tie.After-counts-of) → Tallied (list (entry (c .before))) (c .counts-of .result .n) (c .counts-of .result .symbols) (c .counts-of .result .sent)
+counted c = tallied _ _ _ _ _ (known (c .before) .list-is) (c .counts-of .ensures)
 
-all-carriers : (c : tie.After-symbols-of) → 48 * c .symbols-of .result ≡ carriers (entry (c .before .before .before) .args .mode) (entry (c .before .before .before) .args .n)
-all-carriers c = sized-carriers _ _ _ (known (c .before .before .before)) _ (c .symbols-of .ensures .0)
+-- what was tested for the counts was tested for the list
+late : (c : tie.After-lent-refusal)
+    → c .lent-refusal .result
+    ≡ ladder
+    (lent
+    (not (eqb (length (entry (c .before .before .before .before .before .before) .args .sent .now)) (sentOf (list (entry (c .before .before .before .before .before .before))))))
+    (ltb (length (entry (c .before .before .before .before .before .before) .args .i .now)) (carriersOf (list (entry (c .before .before .before .before .before .before)))) || ltb (length (entry (c .before .before .before .before .before .before) .args .q .now)) (carriersOf (list (entry (c .before .before .before .before .before .before)))))
+    (not (allBits (entry (c .before .before .before .before .before .before) .args .sent .now))))
+late c =
+    let count = counted (c .before .before .before .before .before) in
+    rw (← count .sent-is, ← count .carriers-is, ← c .before .before .before .axes-short .ensures, ← c .before .before .bits-ok .ensures) (c .lent-refusal .ensures)
 
 sized-refusal-requires : tie.Need-sized-refusal-requires
 sized-refusal-requires c κs = search needs
 
 returns : tie.Need-returns
-returns c = ideal-1-to-5 _ _ _ _ _ _ (c .before .sized-refusal .ensures) (c .if1 .taken)
+unfolding Ideal idealRefusal
+returns c = described-refused _ _ _ _ _ _ _ (c .before .sized-refusal .ensures) (c .if1 .taken)
 
-mode-of-requires : tie.Need-mode-of-requires
-mode-of-requires c κs = search needs
+train-of-requires : tie.Need-train-of-requires
+train-of-requires c κs = list-fit _ (sym (c .before .sized-refusal .ensures) ∙ c .if1 .left)
 
-sent-bits-requires : tie.Need-sent-bits-requires
-sent-bits-requires c κs = known c .made
+counts-of-requires : tie.Need-counts-of-requires
+counts-of-requires c κs = known c .made
 
-returns-2 : tie.Need-returns-2
-returns-2 c = ideal-7 _ _ _ _ _ (known (c .before .before) .zero) (λ e. c .if2 .taken (e ∙ sym (counted (c .before))))
+mul-axes-short : tie.Need-mul-axes-short
+mul-axes-short c = omega (arith, tallied-small _ _ _ _ (list-fit _ (known (c .before .before) .zero)) (counted (c .before)) .1)
 
-symbols-of-requires : tie.Need-symbols-of-requires
-symbols-of-requires c κs = known (c .before .before) .made
-
-mul-carriers : tie.Need-mul-carriers
-mul-carriers c = search needs
-
-returns-3 : tie.Need-returns-3
-returns-3 c =
-    let s = c .before in
-    ideal-8-i _ _ _ _ _ (known (s .before .before .before) .zero) (s .before .if2 .left ∙ counted (s .before .before)) (omega (arith, all-carriers s))
-
-returns-4 : tie.Need-returns-4
-returns-4 c =
-    let s = c .before .before in
-    ideal-8-q _ _ _ _ _ (known (s .before .before .before) .zero) (s .before .if2 .left ∙ counted (s .before .before))
-    (omega (arith, all-carriers s)) (omega (arith, all-carriers s))
+axes-short-requires : tie.Need-axes-short-requires
+axes-short-requires c κs = search needs
 
 bits-ok-requires : tie.Need-bits-ok-requires
 bits-ok-requires c κs = search needs
 
-returns-5 : tie.Need-returns-5
-returns-5 c =
-    let s = c .before .before .before .before in
-    ideal-9 _ _ _ _ _ (known (s .before .before .before) .zero) (s .before .if2 .left ∙ counted (s .before .before))
-    (omega (arith, all-carriers s)) (omega (arith, all-carriers s))
-    (sym (c .before .bits-ok .ensures) ∙ not-true _ (c .if5 .taken))
+lent-refusal-requires : tie.Need-lent-refusal-requires
+lent-refusal-requires c κs = search needs
 
-readings-requires : tie.Need-readings-requires
-readings-requires c κs =
-    let s = c .before .before .before .before .before .before in
-    let m = s .before .before .before in
-    let all : bitsOf (constellationOf (entry m .args .mode)) * carriers (entry m .args .mode) (entry m .args .n) ≡ length (entry m .args .sent .now) =
-    carriers-exact _ _ (known m .fit) ∙ sym (s .before .if2 .left ∙ counted (s .before .before))
-    in
-    record {
-      enough = rw (known m .constellation-is, all-carriers s) (omega (arith, all));
-      onI = c .before .before .before .before .before .if3 .left;
-      onQ = c .before .before .before .before .if4 .left;
-    }
+returns-2 : tie.Need-returns-2
+unfolding Ideal idealRefusal
+returns-2 c = lent-refused _ _ _ _ _ _ (known (c .before .before .before .before .before .before .before) .zero) _ (late (c .before)) (c .if2 .taken)
+
+read-train-requires : tie.Need-read-train-requires
+read-train-requires c κs =
+    let at = c .before .before .before .before .before .before .before .before .before in
+    let same = known at .list-is in
+    let (wrong, short, _) = lent-passed _ _ _ (sym (late (c .before .before .before)) ∙ c .before .before .if2 .left) in
+    let all = list (entry at) in
+    let (on-i, on-q) = enough-room (length (entry at .args .i .now)) (length (entry at .args .q .now)) (carriersOf all) (carriersOf all) short in (
+      (known at .made, omega (arith, eqb-true (length (entry at .args .sent .now)) (sentOf all) (not-false _ wrong), ap sentOf same)),
+      (omega (arith, on-i, ap carriersOf same), omega (arith, on-q, ap carriersOf same)),
+    )
 
 same-length : tie.Need-same-length
 same-length c = search needs
@@ -91,17 +90,12 @@ same-length c = search needs
 same-length-2 : tie.Need-same-length-2
 same-length-2 c = search needs
 
-returns-6 : tie.Need-returns-6
-returns-6 c =
-    let s = c .before .before .before .before .before .before .before .before .before in
-    let m = s .before .before .before in
-    let made = c .before .before .readings .ensures in
-    ideal-done _ _ _ _ _ (known m .zero) (s .before .if2 .left ∙ counted (s .before .before))
-    (omega (arith, all-carriers s, c .before .before .before .before .before .before .before .before .if3 .left))
-    (omega (arith, all-carriers s, c .before .before .before .before .before .before .before .if4 .left))
-    _ _ (sym (c .before .before .before .before .before .before .bits-ok .ensures) ∙ not-false _ (c .before .before .before .before .before .if5 .left))
-    (made .onI ∙ ap₂ (λ (k : Constellation) (n : ℕ). filled n (idealI k (entry m .args .sent .now)) (entry m .args .i .now)) (known m .constellation-is) (all-carriers s))
-    (made .onQ ∙ ap₂ (λ (k : Constellation) (n : ℕ). filled n (idealQ k (entry m .args .sent .now)) (entry m .args .q .now)) (known m .constellation-is) (all-carriers s))
+returns-3 : tie.Need-returns-3
+unfolding Ideal idealRefusal
+returns-3 c =
+    let at = c .before .before .before .before .before .before .before .before .before .before .before .before in
+    all-done _ _ _ _ _ _ (known at .zero) (sym (late (c .before .before .before .before .before .before)) ∙ c .before .before .before .before .before .if2 .left) _
+    (passed-read _ _ (known at) _ _ _ _ _ (c .before .before .read-train .ensures))
 
 pub ideal-spec : {M : Type 1} → statement M
 ideal-spec =
@@ -109,16 +103,14 @@ ideal-spec =
     (tie.spec
     sized-refusal-requires
     returns
-    mode-of-requires
-    sent-bits-requires
-    returns-2
-    symbols-of-requires
-    mul-carriers
-    returns-3
-    returns-4
+    train-of-requires
+    counts-of-requires
+    mul-axes-short
+    axes-short-requires
     bits-ok-requires
-    returns-5
-    readings-requires
+    lent-refusal-requires
+    returns-2
+    read-train-requires
     same-length
     same-length-2
-    returns-6)
+    returns-3)

@@ -1,8 +1,12 @@
 -- `record::refusal` keeps its promise, test by test.
 -- Assumes nothing.
+use mathlib.Core.Path.{_∙_}
 use borrow.Author.Needs.{needs}
 use borrow.Author.Tests.{lt-ltb, le-ltb}
 use Rattle.laws.specs.Ladder.{ladder}
+use Rattle.laws.specs.Lists.{tabulate}
+use Rattle.modes.specs.Pdus.{pdusOf}
+use Rattle.modes.proofs.RefusalLaws.{one-described}
 use Rattle.record.specs.Record.{lineRefusal}
 use Rattle.record.proofs.refusal.Statement.{statement}
 use Rattle.record.proofs.refusal.Tie as tie
@@ -29,11 +33,11 @@ refusal-requires : tie.Need-refusal-requires
 refusal-requires c κs = search needs
 
 returns-5 : tie.Need-returns-5
-unfolding lineRefusal ladder
+unfolding lineRefusal ladder pdusOf tabulate
 returns-5 c =
     simp
-    (le-ltb _ _ (c .before .before .before .before .if1 .left), le-ltb _ _ (c .before .before .before .if2 .left), le-ltb _ _ (c .before .before .if3 .left), le-ltb _ _ (c .before .if4 .left))
-    (c .refusal .ensures)
+    (le-ltb _ _ (c .before .before .before .before .before .before .if1 .left), le-ltb _ _ (c .before .before .before .before .before .if2 .left), le-ltb _ _ (c .before .before .before .before .if3 .left), le-ltb _ _ (c .before .before .before .if4 .left))
+    (c .refusal .ensures ∙ one-described _ _ _ _)
 
 pub refusal-spec : {M : Type 1} → statement M
 refusal-spec = tie.close (tie.spec returns returns-2 returns-3 returns-4 refusal-requires returns-5)

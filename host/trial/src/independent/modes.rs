@@ -1,4 +1,5 @@
-//! Table 1, and the refusals 1 to 6.
+//! Table 1, lists of PDUs, and the refusals of a description: 11 and 1 to 6.
+use super::unless;
 
 #[derive(Clone, Copy, PartialEq)]
 pub enum Rate {
@@ -25,9 +26,16 @@ pub static MODES: [Mode; 7] = [
     Mode { carrier: 6, rate: Rate::ThreeQuarters, sent: 288, info: 216 },
 ];
 
-/// The counts of a train: information bits, symbols, sent bits, carriers.
-pub struct Size {
+/// One PDU of a train: its mode, information bits and symbols.
+pub struct Pdu {
     pub mode: &'static Mode,
+    pub n: usize,
+    pub symbols: usize,
+}
+
+/// The PDUs of a train and its counts: information bits, symbols, sent bits, carriers.
+pub struct Size {
+    pub pdus: Vec<Pdu>,
     pub n: usize,
     pub symbols: usize,
     pub sent: usize,
@@ -41,27 +49,42 @@ pub fn mode_of(number: u32) -> Result<&'static Mode, u32> {
     }
 }
 
+impl Pdu {
+    /// A PDU, or the refusal of its own length: 3, 4 or 5.
+    fn of(mode: &'static Mode, length: u32) -> Result<Pdu, u32> {
+        let n = length as usize;
+        unless(3, (72..=3456).contains(&n))?;
+        unless(4, n % 8 == 0)?;
+        unless(5, n % mode.info == 0)?;
+        Ok(Pdu { mode, n, symbols: n / mode.info })
+    }
+}
+
 impl Size {
-    /// The train's counts or the first refusal, 1 to 6. A call without a counter or an a gives none.
-    pub fn of(mode: u32, counter: Option<u32>, n: u32, a: Option<u32>) -> Result<Size, u32> {
-        let mode = mode_of(mode)?;
-        let n = n as usize;
-        if counter.is_some_and(|c| c > 15) {
-            return Err(2);
-        }
-        if !(72..=3456).contains(&n) {
-            return Err(3);
-        }
-        if n % 8 != 0 {
-            return Err(4);
-        }
-        if n % mode.info != 0 {
-            return Err(5);
-        }
-        if a.is_some_and(|a| a as usize > n - 72) {
-            return Err(6);
-        }
-        let symbols = n / mode.info;
-        Ok(Size { mode, n, symbols, sent: symbols * mode.sent, carriers: symbols * 48 })
+    /// The train's counts or the first refusal. A call without a counter or an a gives none.
+    pub fn of(
+        count: u32, modes: &[u32; 16], lengths: &[u32; 16], counter: Option<u32>, a: Option<u32>,
+    ) -> Result<Size, u32> {
+        unless(11, (1..=16).contains(&count))?;
+        let listed = 0..count as usize;
+        let modes = modes[listed.clone()].iter().map(|&number| mode_of(number)).collect::<Result<Vec<_>, u32>>()?;
+        unless(2, !counter.is_some_and(|counter| counter > 15))?;
+        let pdus = listed.map(|k| Pdu::of(modes[k], lengths[k])).collect::<Result<Vec<_>, u32>>()?;
+        let size = Size::sum(pdus);
+        unless(3, size.n <= 3456)?;
+        unless(6, !a.is_some_and(|a| a as usize > size.n - 72))?;
+        Ok(size)
+    }
+
+    fn sum(pdus: Vec<Pdu>) -> Size {
+        let symbols = pdus.iter().map(|pdu| pdu.symbols).sum();
+        let n = pdus.iter().map(|pdu| pdu.n).sum();
+        let sent = pdus.iter().map(|pdu| pdu.symbols * pdu.mode.sent).sum();
+        Size { pdus, n, symbols, sent, carriers: 48 * symbols }
+    }
+
+    /// The bits of each carrier of the train, by its PDU's constellation.
+    pub fn bits_of_carriers(&self) -> impl Iterator<Item = usize> + '_ {
+        self.pdus.iter().flat_map(|pdu| vec![pdu.mode.carrier; 48 * pdu.symbols])
     }
 }

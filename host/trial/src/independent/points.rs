@@ -1,5 +1,4 @@
 //! Levels, points and soft bytes.
-use super::modes::Mode;
 
 /// Table 5: the level of one axis for its bits, the earliest the highest. With no bits it is 0.
 fn level(bits: usize, value: usize) -> i16 {
@@ -24,7 +23,7 @@ fn value_of(bits: &[u8]) -> usize {
 }
 
 /// I and Q of one carrier's bits.
-pub fn levels(group: &[u8]) -> [i16; 2] {
+fn levels(group: &[u8]) -> [i16; 2] {
     let [of_i, of_q] = split(group.len());
     [level(of_i, value_of(&group[..of_i])), level(of_q, value_of(&group[of_i..]))]
 }
@@ -59,13 +58,24 @@ pub fn soft_byte(s: i64) -> i8 {
     (size * s.signum()) as i8
 }
 
-/// The soft bytes of all carriers; BPSK reads no Q.
-pub fn soft_bytes(mode: &Mode, i: &[i16], q: &[i16]) -> Vec<i8> {
+/// The soft bytes of all carriers, each of so many bits; BPSK reads no Q.
+pub fn soft_bytes(carriers: impl Iterator<Item = usize>, i: &[i16], q: &[i16]) -> Vec<i8> {
     let mut out = Vec::new();
-    for readings in i.iter().zip(q).map(|(&i, &q)| [i, q]) {
-        for (reading, bits) in readings.into_iter().zip(split(mode.carrier)) {
+    for (carrier, readings) in carriers.zip(i.iter().zip(q).map(|(&i, &q)| [i, q])) {
+        for (reading, bits) in readings.into_iter().zip(split(carrier)) {
             out.extend((0..bits).map(|bit| soft_byte(leaning(reading, bits, bit))));
         }
     }
     out
+}
+
+/// I and Q of all carriers, each of so many of the sent bits.
+pub fn all_levels(carriers: impl Iterator<Item = usize>, sent: &[u8]) -> Vec<[i16; 2]> {
+    let mut rest = sent;
+    let next = |carrier: usize| {
+        let (group, others) = rest.split_at(carrier);
+        rest = others;
+        levels(group)
+    };
+    carriers.map(next).collect()
 }

@@ -1,5 +1,5 @@
 //! From octets to sent bits, stage by stage. Bits are 0 and 1, one to an entry.
-use super::modes::{Mode, Rate};
+use super::modes::{Mode, Pdu, Rate};
 
 /// Most significant bit first.
 pub fn bits_of(octets: &[u8]) -> Vec<u8> {
@@ -48,7 +48,7 @@ pub fn p1<T: Copy>(pairs: &[[T; 2]], a: usize) -> Vec<T> {
     out
 }
 
-/// P2, from the train's first bit.
+/// P2, from a PDU's first bit.
 pub fn p2<T: Copy>(bits: &[T], rate: Rate) -> Vec<T> {
     let is_kept = |k: usize| match rate {
         Rate::Half => true,
@@ -75,13 +75,24 @@ pub fn interleaved<T: Copy>(mode: &Mode, bits: &[T]) -> Vec<T> {
     out
 }
 
-/// What stands for each coded bit, in the order of the sent bits; what is dropped is left out.
-pub fn in_sent_order<T: Copy>(mode: &Mode, a: usize, pairs: &[[T; 2]]) -> Vec<T> {
-    interleaved(mode, &p2(&p1(pairs, a), mode.rate))
+/// What stands for each coded bit, in the order of the sent bits; what is dropped is left out. Of P1's output each PDU
+/// has its share, twice its information bits, and P2 begins anew with it.
+pub fn in_sent_order<T: Copy>(pdus: &[Pdu], a: usize, pairs: &[[T; 2]]) -> Vec<T> {
+    let all = p1(pairs, a);
+    let mut rest = &all[..];
+    let mut out = Vec::new();
+    for pdu in pdus {
+        let (share, others) = rest.split_at(2 * pdu.n);
+        out.extend(interleaved(pdu.mode, &p2(share, pdu.mode.rate)));
+        rest = others;
+    }
+    assert!(rest.is_empty(), "the PDUs share all of P1's output");
+    out
 }
 
-pub fn sent_bits(mode: &Mode, counter: u32, a: usize, octets: &[u8]) -> Vec<u8> {
+/// The train is scrambled, tailed and coded once.
+pub fn sent_bits(pdus: &[Pdu], counter: u32, a: usize, octets: &[u8]) -> Vec<u8> {
     let mut inputs = scrambled(&bits_of(octets), counter);
     inputs.extend([0; 6]);
-    in_sent_order(mode, a, &coded(&inputs))
+    in_sent_order(pdus, a, &coded(&inputs))
 }

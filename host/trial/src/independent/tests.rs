@@ -1,6 +1,8 @@
-//! Document 01's own examples, and search and mark of short trains against all trains.
-use super::modes::MODES;
+//! Document 01's own examples, lists of PDUs, and search and mark of short trains against all trains.
+use super::modes::{Size, MODES};
 use super::{points, search, sending};
+use crate::description::Description;
+use crate::ladder::{rungs, Rung};
 use crate::random::Random;
 
 fn text(bits: &[u8]) -> String {
@@ -37,6 +39,39 @@ fn soft_bytes() {
             "reading {reading}, bit {bit} of {bits}"
         );
     }
+}
+
+/// The refusal of each rung, with counter and a and without; 7 is no refusal of a description.
+#[test]
+fn ladder() {
+    for Rung { train, refusal, without_place } in rungs() {
+        let Description { count, modes, lengths, counter, a } = train;
+        let told = |counter, a| Size::of(count, &modes, &lengths, counter, a).err().unwrap_or(7);
+        assert_eq!(told(Some(counter), Some(a)), refusal, "{train:?}");
+        assert_eq!(told(None, None), without_place, "{train:?} without counter and a");
+    }
+}
+
+/// The sent bits of a train of these PDUs, its octets all alike.
+fn sent_bits(pdus: &[(u32, u32)], a: u32) -> Vec<u8> {
+    let size = Description::of(pdus, 4, a).size();
+    sending::sent_bits(&size.pdus, 4, a as usize, &vec![0x9d; size.n / 8])
+}
+
+/// A symbol is a whole number of P2's periods, so that a train may be cut into PDUs of one mode without a change.
+#[test]
+fn cut_in_one_mode() {
+    for (mode, a) in (1..=7).flat_map(|mode| [0, 180, 400, 792].map(|a| (mode, a))) {
+        assert_eq!(sent_bits(&[(mode, 432), (mode, 432)], a), sent_bits(&[(mode, 864)], a), "mode {mode}, a {a}");
+    }
+}
+
+/// Scrambler, code and P1 know no modes: a PDU is sent as its place in a train all of its mode. P1 lies across the two.
+#[test]
+fn mode_of_each_pdu() {
+    let (slow, fast) = (sent_bits(&[(1, 864)], 396), sent_bits(&[(6, 864)], 396));
+    let mixed = sent_bits(&[(1, 432), (6, 432)], 396);
+    assert_eq!(mixed, [&slow[..864], &fast[fast.len() / 2..]].concat());
 }
 
 type Pair = [Option<i8>; 2];

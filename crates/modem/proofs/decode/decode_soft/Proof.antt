@@ -1,48 +1,50 @@
--- `modem::decode_soft` keeps its promise, test by test (DecodeLaws).
+-- `modem::decode::decode_soft` keeps its promise, test by test (LentLaws).
 -- Assumes nothing.
-use mathlib.Core.Path.{_≡_, refl, sym, _∙_, ap}
-use mathlib.Core.Bool.{not, _||_}
-use Prim.Native.Nat.{ℕ, _+_}
-use native.Mathlib.Omega.{arith}
-use lib.Dec.{ltb, eqb}
+use mathlib.Core.Path.{_≡_, refl, sym, _∙_}
+use mathlib.Core.Bool.{not}
+use mathlib.Core.List.{List}
+use Prim.Native.Nat.{_+_, _≤_}
+use lib.Dec.{eqb}
 use lib.ListN.{length}
 use borrow.Author.Needs.{needs}
-use borrow.Author.Tests.{eqb-true, ltb-false, not-false}
+use borrow.Author.Tests.{eqb-true, not-false}
 use Rattle.laws.specs.Ladder.{ladder}
-use Rattle.modes.specs.Sizes.{sentBits, octetsOf}
+use Rattle.modes.specs.Sizes.{octetsOf}
+use Rattle.modes.specs.Pdus.{Pdu, pdusOf, lengthOf, sentOf}
+use Rattle.modes.proofs.RefusalLaws.{list-legal}
 use Rattle.soft.specs.Carriers.{allSoft}
 use Rattle.modem.specs.Lent.{lent, roomShort}
-use Rattle.modem.proofs.PassedLaws.{Passed, passed, passed-sent, passed-few, passed-decoded}
-use Rattle.modem.proofs.DecodeLaws.{neither, lent-passed, soft-told, soft-1-to-6, soft-7-to-9, soft-done}
+use Rattle.modem.specs.Decode.{softRefusal, DecodeSoft}
+use Rattle.modem.proofs.LentLaws.{enough-room, lent-passed, described-refused, lent-refused, all-done}
+use Rattle.modem.proofs.ToldLaws.{told}
+use Rattle.modem.proofs.PassedLaws.{Tallied, Passed, passed, tallied, tallied-small, passed-decoded}
 use Rattle.modem.proofs.decode.decode_soft.Statement.{statement}
 use Rattle.modem.proofs.decode.decode_soft.Tie as tie
 
--- the function's entry, and what is known once the description has passed
+-- the function's entry and its list, what is known once that has passed, and the counts
+abbrev list : tie.Start → List Pdu
+list c = pdusOf (c .args .count) (c .args .modes .now) (c .args .lengths .now)
+
 abbrev entry : tie.After-train-of → tie.Start
 entry c = c .before .before .before .before .before
 
-known : (c : tie.After-train-of) → Passed (entry c .args .mode) (entry c .args .counter) (entry c .args .n) (entry c .args .a) (c .train-of .result)
-known c = passed _ _ _ _ _ (sym (c .before .before .refusal .ensures) ∙ c .before .if1 .left) (c .train-of .ensures)
+known : (c : tie.After-train-of) → Passed (list (entry c)) (entry c .args .counter) (entry c .args .a) (c .train-of .result)
+known c = passed _ _ _ _ (sym (c .before .before .refusal .ensures) ∙ c .before .if1 .left) (c .train-of .ensures)
 
--- what was tested for the Train was tested for the description
+counted : (c : tie.After-counts-of) → Tallied (list (entry (c .before))) (c .counts-of .result .n) (c .counts-of .result .symbols) (c .counts-of .result .sent)
+counted c = tallied _ _ _ _ _ (known (c .before) .holds .list-is) (c .counts-of .ensures)
+
+-- what was tested for the counts was tested for the list
 late : (c : tie.After-lent-refusal)
     → c .lent-refusal .result
     ≡ ladder
     (lent
-    (not (eqb (length (entry (c .before .before .before .before) .args .soft .now)) (sentBits (entry (c .before .before .before .before) .args .mode) (entry (c .before .before .before .before) .args .n))))
-    (roomShort (entry (c .before .before .before .before) .args .n) (entry (c .before .before .before .before) .args .octets .now) (entry (c .before .before .before .before) .args .words .now))
-    (not (allSoft (entry (c .before .before .before .before) .args .soft .now))))
+    (not (eqb (length (entry (c .before .before .before .before .before) .args .soft .now)) (sentOf (list (entry (c .before .before .before .before .before))))))
+    (roomShort (lengthOf (list (entry (c .before .before .before .before .before)))) (entry (c .before .before .before .before .before) .args .octets .now) (entry (c .before .before .before .before .before) .args .words .now))
+    (not (allSoft (entry (c .before .before .before .before .before) .args .soft .now))))
 late c =
-    let at = c .before .before .before .before in
-    let start = entry at in
-    rw (
-      ← passed-sent _ _ _ _ _ (known at),
-      ← c .before .before .before .sent-bits .ensures,
-      ← ap (λ (n : ℕ). ltb (length (start .args .octets .now)) (octetsOf n) || ltb (length (start .args .words .now)) (n + 6)) (known at .holds .n-is),
-      ← c .before .before .room-short .ensures,
-      ← c .before .soft-ok .ensures,
-    )
-    (c .lent-refusal .ensures)
+    let count = counted (c .before .before .before .before) in
+    rw (← count .sent-is, ← count .n-is, ← c .before .before .before .room-short .ensures, ← c .before .before .soft-ok .ensures) (c .lent-refusal .ensures)
 
 refusal-requires : tie.Need-refusal-requires
 refusal-requires c κs = search needs
@@ -51,16 +53,21 @@ refused-requires : tie.Need-refused-requires
 refused-requires c κs = search needs
 
 returns : tie.Need-returns
-returns c = soft-told _ _ _ _ _ _ _ _ _ (soft-1-to-6 _ _ _ _ _ _ _ _ (c .before .before .refusal .ensures) (c .before .if1 .taken)) (c .refused .ensures)
+unfolding DecodeSoft softRefusal
+returns c = told _ _ _ _ _ (described-refused _ _ _ _ _ _ _ (c .before .before .refusal .ensures) (c .before .if1 .taken)) (c .refused .ensures)
 
 train-of-requires : tie.Need-train-of-requires
-train-of-requires c κs = search needs
+train-of-requires c κs = list-legal _ _ _ (sym (c .before .refusal .ensures) ∙ c .if1 .left) .fit
 
-sent-bits-requires : tie.Need-sent-bits-requires
-sent-bits-requires c κs = known c .made .fit
+counts-of-requires : tie.Need-counts-of-requires
+counts-of-requires c κs = known c .made .fit
+
+-- the counts are small
+small : (c : tie.After-counts-of) → (c .counts-of .result .n ≤ 3456) × (c .counts-of .result .symbols ≤ 144) × (c .counts-of .result .sent ≤ 6912)
+small c = tallied-small _ _ _ _ (known (c .before) .legal .fit) (counted c)
 
 room-short-requires : tie.Need-room-short-requires
-room-short-requires c κs = known (c .before) .made .fit .to-3456
+room-short-requires c κs = small c .0
 
 soft-ok-requires : tie.Need-soft-ok-requires
 soft-ok-requires c κs = search needs
@@ -72,30 +79,24 @@ refused-requires-2 : tie.Need-refused-requires-2
 refused-requires-2 c κs = search needs
 
 returns-2 : tie.Need-returns-2
+unfolding DecodeSoft softRefusal
 returns-2 c =
     let at = c .before .before in
-    soft-told _ _ _ _ _ _ _ _ _ (soft-7-to-9 _ _ _ _ _ _ _ (known (at .before .before .before .before) .zero) _ (late at) (c .before .if2 .taken)) (c .refused2 .ensures)
-
-symbols-of-requires : tie.Need-symbols-of-requires
-symbols-of-requires c κs = known (c .before .before .before .before .before) .made .fit
+    told _ _ _ _ _ (lent-refused _ _ _ _ _ _ (known (at .before .before .before .before .before) .zero) _ (late at) (c .before .if2 .taken)) (c .refused2 .ensures)
 
 find-requires : tie.Need-find-requires
 find-requires c κs =
-    let at = c .before .before .before .before in
-    let t = at .before .before .before .before in
-    let (wrong, short, outside) = lent-passed _ _ _ (sym (at .lent-refusal .ensures) ∙ c .before .before .before .if2 .left) in
-    let (octets, words) = neither _ _ (sym (at .before .before .room-short .ensures) ∙ short) in (
-      known t .made,
-      (
-        (eqb-true _ _ (not-false _ wrong) ∙ at .before .before .before .sent-bits .ensures, sym (at .before .soft-ok .ensures) ∙ not-false _ outside),
-        (ltb-false _ _ octets, ltb-false _ _ words),
-      ),
+    let at = c .before .before .before in
+    let train = at .before .before .before .before .before in
+    let (wrong, short, outside) = lent-passed _ _ _ (sym (at .lent-refusal .ensures) ∙ c .before .before .if2 .left) in
+    let n = at .before .before .before .before .counts-of .result .n in
+    let room = enough-room (length (entry train .args .octets .now)) (length (entry train .args .words .now)) (octetsOf n) (n + 6) (sym (at .before .before .before .room-short .ensures) ∙ short) in (
+      (known train .made, at .before .before .before .before .counts-of .ensures .0),
+      ((eqb-true _ _ (not-false _ wrong) ∙ at .before .before .before .before .counts-of .ensures .2, sym (at .before .before .soft-ok .ensures) ∙ not-false _ outside), room),
     )
 
 done-requires : tie.Need-done-requires
-done-requires c κs =
-    let counted = c .before .before .before .before .before .before .before .before .before .before .before .before in
-    (omega arith, omega (arith, counted .sent-bits .ensures ∙ passed-sent _ _ _ _ _ (known (counted .before)), passed-few _ _ _ _ _ (known (counted .before))))
+done-requires c κs = (small (c .before .before .before .before .before .before .before .before .before .before .before .before) .1, small (c .before .before .before .before .before .before .before .before .before .before .before .before) .2)
 
 same-length : tie.Need-same-length
 same-length c = search needs
@@ -104,15 +105,13 @@ same-length-2 : tie.Need-same-length-2
 same-length-2 c = search needs
 
 returns-3 : tie.Need-returns-3
+unfolding DecodeSoft softRefusal
 returns-3 c =
-    let at = c .before .before .before .before .before .before .before .before .before .before in
-    let counted = at .before .before .before in
-    let t = counted .before in
-    soft-told _ _ _ _ _ _ _ _ _
-    (soft-done _ _ _ _ _ _ _ (known t .zero) _ (sym (late at) ∙ c .before .before .before .before .before .before .before .before .before .if2 .left)
-    (passed-decoded _ _ _ _ _ (known t) _ _ refl _ _ _ _ _ _ _ _
-    (c .before .before .before .before .before .before .before .before .symbols-of .ensures .0) (counted .sent-bits .ensures)
-    (c .before .before .before .before .before .find .ensures)))
+    let at = c .before .before .before .before .before .before .before .before .before in
+    let train = at .before .before .before .before .before in
+    told _ _ _ _ _
+    (all-done _ _ _ _ _ _ (known train .zero) (sym (late at) ∙ c .before .before .before .before .before .before .before .before .if2 .left) _
+    (passed-decoded _ _ _ _ (known train) _ _ refl _ _ _ _ _ _ _ _ _ (counted (at .before .before .before .before)) (c .before .before .before .before .before .find .ensures)))
     (c .done .ensures)
 
 pub decode-soft-spec : {M : Type 1} → statement M
@@ -123,13 +122,12 @@ decode-soft-spec =
     refused-requires
     returns
     train-of-requires
-    sent-bits-requires
+    counts-of-requires
     room-short-requires
     soft-ok-requires
     lent-refusal-requires
     refused-requires-2
     returns-2
-    symbols-of-requires
     find-requires
     done-requires
     same-length

@@ -1,46 +1,49 @@
--- `modem::decode_readings` keeps its promise, test by test (DecodeLaws).
+-- `modem::readings::decode_readings` keeps its promise, test by test (LentLaws).
 -- Assumes nothing.
 use mathlib.Core.Path.{_≡_, sym, _∙_, ap}
-use mathlib.Core.Bool.{false, _||_}
-use Prim.Native.Nat.{ℕ, _+_, _*_}
+use mathlib.Core.Bool.{false}
+use mathlib.Core.List.{List}
+use Prim.Native.Nat.{_+_, _≤_}
 use native.Mathlib.Omega.{arith}
-use lib.Dec.{ltb}
 use lib.ListN.{length}
 use borrow.Author.Needs.{needs}
-use borrow.Author.Tests.{ltb-false}
 use Rattle.laws.specs.Ladder.{ladder}
 use Rattle.modes.specs.Sizes.{octetsOf}
+use Rattle.modes.specs.Pdus.{Pdu, pdusOf, lengthOf, carriersOf}
+use Rattle.modes.proofs.RefusalLaws.{list-legal}
 use Rattle.modem.specs.Lent.{lent, readingsWrong, roomShort}
-use Rattle.modem.proofs.PassedLaws.{Passed, passed, passed-sent, passed-few, passed-carriers, passed-softened, passed-decoded, made-carriers}
-use Rattle.modem.proofs.DecodeLaws.{neither, right-counts, lent-passed, readings-told, readings-1-to-6, readings-7-8, readings-done}
+use Rattle.modem.specs.Soften.{softened}
+use Rattle.modem.specs.Decode.{readingsRefusal, DecodeReadings}
+use Rattle.modem.proofs.LentLaws.{right-counts, enough-room, lent-passed, described-refused, lent-refused, all-done}
+use Rattle.modem.proofs.ToldLaws.{told}
+use Rattle.modem.proofs.PassedLaws.{Tallied, Passed, passed, tallied, tallied-small, passed-decoded}
 use Rattle.modem.proofs.readings.decode_readings.Statement.{statement}
 use Rattle.modem.proofs.readings.decode_readings.Tie as tie
 
--- the function's entry, and what is known once the description has passed
+-- the function's entry and its list, what is known once that has passed, and the counts
+abbrev list : tie.Start → List Pdu
+list c = pdusOf (c .args .count) (c .args .modes .now) (c .args .lengths .now)
+
 abbrev entry : tie.After-train-of → tie.Start
 entry c = c .before .before .before .before .before
 
-known : (c : tie.After-train-of) → Passed (entry c .args .mode) (entry c .args .counter) (entry c .args .n) (entry c .args .a) (c .train-of .result)
-known c = passed _ _ _ _ _ (sym (c .before .before .refusal .ensures) ∙ c .before .if1 .left) (c .train-of .ensures)
+known : (c : tie.After-train-of) → Passed (list (entry c)) (entry c .args .counter) (entry c .args .a) (c .train-of .result)
+known c = passed _ _ _ _ (sym (c .before .before .refusal .ensures) ∙ c .before .if1 .left) (c .train-of .ensures)
 
--- what was tested for the Train was tested for the description
+counted : (c : tie.After-counts-of) → Tallied (list (entry (c .before))) (c .counts-of .result .n) (c .counts-of .result .symbols) (c .counts-of .result .sent)
+counted c = tallied _ _ _ _ _ (known (c .before) .holds .list-is) (c .counts-of .ensures)
+
+-- what was tested for the counts was tested for the list
 late : (c : tie.After-lent-refusal)
     → c .lent-refusal .result
     ≡ ladder
     (lent
-    (readingsWrong (entry (c .before .before .before .before .before) .args .mode) (entry (c .before .before .before .before .before) .args .n) (entry (c .before .before .before .before .before) .args .i .now) (entry (c .before .before .before .before .before) .args .q .now))
-    (roomShort (entry (c .before .before .before .before .before) .args .n) (entry (c .before .before .before .before .before) .args .octets .now) (entry (c .before .before .before .before .before) .args .words .now))
+    (readingsWrong (carriersOf (list (entry (c .before .before .before .before .before)))) (entry (c .before .before .before .before .before) .args .i .now) (entry (c .before .before .before .before .before) .args .q .now))
+    (roomShort (lengthOf (list (entry (c .before .before .before .before .before)))) (entry (c .before .before .before .before .before) .args .octets .now) (entry (c .before .before .before .before .before) .args .words .now))
     false)
 late c =
-    let at = c .before .before .before .before .before in
-    let start = entry at in
-    rw (
-      ← passed-carriers _ _ _ _ _ (known at) _ (c .before .before .before .before .symbols-of .ensures .0),
-      ← c .before .before .readings-wrong .ensures,
-      ← ap (λ (n : ℕ). ltb (length (start .args .octets .now)) (octetsOf n) || ltb (length (start .args .words .now)) (n + 6)) (known at .holds .n-is),
-      ← c .before .room-short .ensures,
-    )
-    (c .lent-refusal .ensures)
+    let count = counted (c .before .before .before .before) in
+    rw (← count .carriers-is, ← count .n-is, ← c .before .room-short .ensures, ← c .before .before .readings-wrong .ensures) (c .lent-refusal .ensures)
 
 refusal-requires : tie.Need-refusal-requires
 refusal-requires c κs = search needs
@@ -49,25 +52,27 @@ refused-requires : tie.Need-refused-requires
 refused-requires c κs = search needs
 
 returns : tie.Need-returns
-returns c = readings-told _ _ _ _ _ _ _ _ _ _ (readings-1-to-6 _ _ _ _ _ _ _ _ _ (c .before .before .refusal .ensures) (c .before .if1 .taken)) (c .refused .ensures)
+unfolding DecodeReadings readingsRefusal
+returns c = told _ _ _ _ _ (described-refused _ _ _ _ _ _ _ (c .before .before .refusal .ensures) (c .before .if1 .taken)) (c .refused .ensures)
 
 train-of-requires : tie.Need-train-of-requires
-train-of-requires c κs = search needs
+train-of-requires c κs = list-legal _ _ _ (sym (c .before .refusal .ensures) ∙ c .if1 .left) .fit
 
-symbols-of-requires : tie.Need-symbols-of-requires
-symbols-of-requires c κs = known c .made .fit
+counts-of-requires : tie.Need-counts-of-requires
+counts-of-requires c κs = known c .made .fit
 
-sent-bits-requires : tie.Need-sent-bits-requires
-sent-bits-requires c κs = known (c .before) .made .fit
+-- the counts are small
+small : (c : tie.After-counts-of) → (c .counts-of .result .n ≤ 3456) × (c .counts-of .result .symbols ≤ 144) × (c .counts-of .result .sent ≤ 6912)
+small c = tallied-small _ _ _ _ (known (c .before) .legal .fit) (counted c)
 
 mul-readings-wrong : tie.Need-mul-readings-wrong
-mul-readings-wrong c = search needs
+mul-readings-wrong c = omega (arith, small (c .before) .1)
 
 readings-wrong-requires : tie.Need-readings-wrong-requires
 readings-wrong-requires c κs = search needs
 
 room-short-requires : tie.Need-room-short-requires
-room-short-requires c κs = known (c .before .before .before) .made .fit .to-3456
+room-short-requires c κs = small (c .before .before) .0
 
 lent-refusal-requires : tie.Need-lent-refusal-requires
 lent-refusal-requires c κs = search needs
@@ -76,28 +81,28 @@ refused-requires-2 : tie.Need-refused-requires-2
 refused-requires-2 c κs = search needs
 
 returns-2 : tie.Need-returns-2
+unfolding DecodeReadings readingsRefusal
 returns-2 c =
     let at = c .before .before in
-    readings-told _ _ _ _ _ _ _ _ _ _ (readings-7-8 _ _ _ _ _ _ _ _ (known (at .before .before .before .before .before) .zero) _ (late at) (c .before .if2 .taken)) (c .refused2 .ensures)
+    told _ _ _ _ _ (lent-refused _ _ _ _ _ _ (known (at .before .before .before .before .before) .zero) _ (late at) (c .before .if2 .taken)) (c .refused2 .ensures)
 
 find-by-readings-requires : tie.Need-find-by-readings-requires
 find-by-readings-requires c κs =
     let at = c .before .before .before in
-    let read = at .before .before in
-    let t = read .before .before .before in
-    let (wrong, short, _) = lent-passed _ _ _ (sym (at .lent-refusal .ensures) ∙ c .before .before .if2 .left) in
-    let (octets, words) = neither _ _ (sym (at .before .room-short .ensures) ∙ short) in
-    let right = right-counts (length (entry t .args .i .now)) (length (entry t .args .q .now)) (48 * read .before .before .symbols-of .result)
-    (sym (read .readings-wrong .ensures) ∙ wrong)
-    in
-    let all = made-carriers _ _ _ (read .before .before .symbols-of .ensures .0) in
-    (known t .made, ((right .0 ∙ all, right .1 ∙ all), (ltb-false _ _ octets, ltb-false _ _ words)))
+    let train = at .before .before .before .before .before in
+    let counts = at .before .before .before .before .counts-of in
+    let same = known train .holds .list-is in
+    let (wrong, short, _) = lent-passed _ _ _ (sym (late at) ∙ c .before .before .if2 .left) in
+    let n = counts .result .n in
+    let (on-i, on-q) = right-counts (length (entry train .args .i .now)) (length (entry train .args .q .now)) (carriersOf (list (entry train))) wrong in
+    let room = enough-room (length (entry train .args .octets .now)) (length (entry train .args .words .now)) (octetsOf n) (n + 6)
+    (rw (counted (at .before .before .before .before) .n-is) short) in (
+      (known train .made, counts .ensures .0, counts .ensures .2),
+      ((on-i ∙ sym (ap carriersOf same), on-q ∙ sym (ap carriersOf same)), room),
+    )
 
 done-requires : tie.Need-done-requires
-done-requires c κs =
-    let counted = c .before .before .before .before .before .before .before .before .before .before .before in
-    let t = counted .before .before in
-    (omega arith, omega (arith, counted .sent-bits .ensures ∙ passed-sent _ _ _ _ _ (known t), passed-few _ _ _ _ _ (known t)))
+done-requires c κs = (small (c .before .before .before .before .before .before .before .before .before .before .before .before) .1, small (c .before .before .before .before .before .before .before .before .before .before .before .before) .2)
 
 same-length : tie.Need-same-length
 same-length c = search needs
@@ -106,14 +111,16 @@ same-length-2 : tie.Need-same-length-2
 same-length-2 c = search needs
 
 returns-3 : tie.Need-returns-3
+unfolding DecodeReadings readingsRefusal
 returns-3 c =
     let at = c .before .before .before .before .before .before .before .before .before in
-    let counted = at .before .before .before in
-    let t = counted .before .before in
-    readings-told _ _ _ _ _ _ _ _ _ _
-    (readings-done _ _ _ _ _ _ _ _ (known t .zero) _ (sym (late at) ∙ c .before .before .before .before .before .before .before .before .if2 .left)
-    (passed-decoded _ _ _ _ _ (known t) _ _ (passed-softened _ _ _ _ _ (known t) _ _) _ _ _ _ _ _ _ _ (counted .before .symbols-of .ensures .0) (counted .sent-bits .ensures)
-    (c .before .before .before .before .before .find-by-readings .ensures)))
+    let train = at .before .before .before .before .before in
+    let start = entry train in
+    told _ _ _ _ _
+    (all-done _ _ _ _ _ _ (known train .zero) (sym (late at) ∙ c .before .before .before .before .before .before .before .before .if2 .left) _
+    (passed-decoded _ _ _ _ (known train) _ _
+    (ap (λ (ps : List Pdu). softened ps (start .args .i .now) (start .args .q .now)) (known train .holds .list-is))
+    _ _ _ _ _ _ _ _ _ (counted (at .before .before .before .before)) (c .before .before .before .before .before .find-by-readings .ensures)))
     (c .done .ensures)
 
 pub decode-readings-spec : {M : Type 1} → statement M
@@ -124,8 +131,7 @@ decode-readings-spec =
     refused-requires
     returns
     train-of-requires
-    symbols-of-requires
-    sent-bits-requires
+    counts-of-requires
     mul-readings-wrong
     readings-wrong-requires
     room-short-requires

@@ -1,41 +1,34 @@
--- `modem::readings::find_by_readings`: soft bytes of readings, and the train that is found by these.
+-- `modem::readings::find_by_readings`: the soft bytes of the readings, and the train that is found by these.
 -- Assumes nothing.
 use mathlib.Core.Path.{_∙_, ap}
+use Prim.Native.Nat.{_≤_}
 use native.Mathlib.Omega.{arith}
-use borrow.Author.Needs.{needs}
 use lib.ListN.{length}
+use borrow.Author.Needs.{needs}
+use Rattle.modes.proofs.SizeLaws.{sent-of-within}
 use Rattle.soft.specs.Carriers.{allSoft}
-use Rattle.modem.proofs.PassedLaws.{made-carriers}
-use Rattle.modem.proofs.ReadLaws.{carrier-bits, sent-few, front-softened, softened-length, softened-soft}
+use Rattle.modem.proofs.SoftenedLaws.{softened-length, softened-soft, front-softened}
 use Rattle.modem.proofs.readings.find_by_readings.Statement.{statement}
 use Rattle.modem.proofs.readings.find_by_readings.Tie as tie
-
-symbols-of-requires : tie.Need-symbols-of-requires
-symbols-of-requires c κs = search needs
-
-mul-carriers : tie.Need-mul-carriers
-mul-carriers c = search needs
-
-sent-bits-requires : tie.Need-sent-bits-requires
-sent-bits-requires c κs = search needs
 
 soft-room-requires : tie.Need-soft-room-requires
 soft-room-requires c κs = search needs
 
-slice-aggregate-soften : tie.Need-slice-aggregate-soften
-slice-aggregate-soften c = search needs
+slice-aggregate-soften-train : tie.Need-slice-aggregate-soften-train
+slice-aggregate-soften-train c = search needs
 
-soften-requires : tie.Need-soften-requires
-soften-requires c κs =
-    let start = c .before .before .before .before .before .before .before in
-    let legal = start .pre .0 in
-    let s = c .before .before .before .symbols-of .ensures .0 in
-    let all = made-carriers _ _ _ s in
-    record {
-      onI = omega (arith, start .pre .1 .0 .0, all);
-      onQ = omega (arith, start .pre .1 .0 .1, all);
-      room = omega (arith, carrier-bits _ _ _ _ _ legal _ s, sent-few _ _ _ _ _ legal _ s, c .before .soft-room .ensures);
-    }
+-- the sent bits are few
+few : (c : tie.Start) → c .args .sent ≤ 6912
+few c =
+    let fit = c .pre .0 .0 .fit in
+    omega (arith, c .pre .0 .2, sent-of-within _ (fit .each), fit .to-3456)
+
+soften-train-requires : tie.Need-soften-train-requires
+soften-train-requires c κs =
+    let start = c .before .before .before .before in (
+      (start .pre .0 .0 .fit, omega (arith, few start, start .pre .0 .2, c .before .soft-room .ensures)),
+      (omega (arith, start .pre .1 .0 .0), omega (arith, start .pre .1 .0 .1)),
+    )
 
 sub-find : tie.Need-sub-find
 sub-find c = search needs
@@ -44,22 +37,14 @@ part-find-start : tie.Need-part-find-start
 part-find-start c = search needs
 
 part-find-end : tie.Need-part-find-end
-part-find-end c =
-    let made = c .before .before in
-    let counted = made .before .before .before in
-    let start = counted .before .before .before .before .before in
-    let s = counted .before .symbols-of .ensures .0 in
-    omega (arith, made .soften .kept .1 .1 .1 .1 .0, made .before .before .soft-room .ensures, counted .sent-bits .ensures, sent-few _ _ _ _ _ (start .pre .0) _ s)
+part-find-end c = omega (arith, few (c .before .before .before .before .before .before .before), c .before .before .soften-train .kept .1 .1 .1 .0, c .before .before .before .before .soft-room .ensures)
 
 find-requires : tie.Need-find-requires
 find-requires c κs =
-    let made = c .before .before .before .before .before in
-    let counted = made .before .before .before in
-    let start = counted .before .before .before .before .before in
-    let s = counted .before .symbols-of .ensures .0 in
-    let front = front-softened _ _ _ _ _ (start .pre .0) _ s _ _ _ _ _ (made .soften .ensures) (counted .sent-bits .ensures) in (
-      start .pre .0,
-      ((ap length front ∙ softened-length _ _ _ _, ap allSoft front ∙ softened-soft _ _ _ _), start .pre .1 .1),
+    let start = c .before .before .before .before .before .before .before .before .before .before in
+    let front = front-softened _ _ _ _ _ _ (start .pre .0 .2) (c .before .before .before .before .before .soften-train .ensures) in (
+      (start .pre .0 .0, start .pre .0 .1),
+      ((ap length front ∙ softened-length _ _ _, ap allSoft front ∙ softened-soft _ _ _), start .pre .1 .1),
     )
 
 same-length : tie.Need-same-length
@@ -70,23 +55,16 @@ same-length-2 c = search needs
 
 returns : tie.Need-returns
 returns c =
-    let made = c .before .before .before .before .before .before .before .before .before .before in
-    let counted = made .before .before .before in
-    let start = counted .before .before .before .before .before in
-    let s = counted .before .symbols-of .ensures .0 in
-    let front = front-softened _ _ _ _ _ (start .pre .0) _ s _ _ _ _ _ (made .soften .ensures) (counted .sent-bits .ensures) in
-    rw front at (c .before .before .before .before .find .ensures)
+    let start = c .before .before .before .before .before .before .before .before .before .before .before .before .before .before .before in
+    rw (front-softened _ _ _ _ _ _ (start .pre .0 .2) (c .before .before .before .before .before .before .before .before .before .before .soften-train .ensures)) at (c .before .before .before .before .find .ensures)
 
 pub find-by-readings-spec : {M : Type 1} → statement M
 find-by-readings-spec =
     tie.close
     (tie.spec
-    symbols-of-requires
-    mul-carriers
-    sent-bits-requires
     soft-room-requires
-    slice-aggregate-soften
-    soften-requires
+    slice-aggregate-soften-train
+    soften-train-requires
     sub-find
     part-find-start
     part-find-end

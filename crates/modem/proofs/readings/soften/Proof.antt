@@ -1,105 +1,93 @@
--- `modem::soften` keeps its promise, test by test (SoftenLaws).
+-- `modem::readings::soften` keeps its promise, test by test (LentLaws).
 -- Assumes nothing.
-use mathlib.Core.Path.{_≡_, sym, _∙_, ap₂}
+use mathlib.Core.Path.{_≡_, sym, _∙_, ap}
 use mathlib.Core.Bool.{false}
-use Prim.Native.Nat.{ℕ, _*_}
+use mathlib.Core.List.{List}
 use native.Mathlib.Omega.{arith}
 use lib.Dec.{ltb}
 use lib.ListN.{length}
 use borrow.Author.Needs.{needs}
 use borrow.Author.Tests.{ltb-false}
 use Rattle.laws.specs.Ladder.{ladder}
-use Rattle.laws.specs.Lists.{filled}
-use Rattle.modes.specs.declared.Constellation.{Constellation}
-use Rattle.modes.specs.Modes.{bitsOf}
-use Rattle.modes.specs.Sizes.{carriers, sentBits}
-use Rattle.soft.specs.Carriers.{softAt}
+use Rattle.modes.specs.Pdus.{Pdu, pdusOf, carriersOf, sentOf}
+use Rattle.modes.proofs.RefusalLaws.{list-fit}
 use Rattle.modem.specs.Lent.{lent, readingsWrong}
-use Rattle.modem.proofs.IdealLaws.{carriers-exact}
-use Rattle.modem.proofs.PassedLaws.{SizedPassed, sized-passed, sized-sent, sized-carriers}
-use Rattle.modem.proofs.DecodeLaws.{right-counts, lent-passed}
-use Rattle.modem.proofs.SoftenLaws.{soften-1-to-5, soften-7-8, soften-done}
+use Rattle.modem.specs.Soften.{softenRefusal, Soften}
+use Rattle.modem.proofs.LentLaws.{right-counts, lent-passed, described-refused, lent-refused, all-done}
+use Rattle.modem.proofs.PassedLaws.{Tallied, SizedPassed, sized-passed, tallied, tallied-small, passed-softened}
 use Rattle.modem.proofs.readings.soften.Statement.{statement}
 use Rattle.modem.proofs.readings.soften.Tie as tie
 
--- the function's entry, and what is known once mode and length have passed
-abbrev entry : tie.After-mode-of → tie.Start
+-- the function's entry and its list, what is known once that has passed, and the counts
+abbrev list : tie.Start → List Pdu
+list c = pdusOf (c .args .count) (c .args .modes .now) (c .args .lengths .now)
+
+abbrev entry : tie.After-train-of → tie.Start
 entry c = c .before .before .before
 
-known : (c : tie.After-mode-of) → SizedPassed (entry c .args .mode) (entry c .args .n) (c .mode-of .result)
-known c = sized-passed _ _ _ (sym (c .before .before .sized-refusal .ensures) ∙ c .before .if1 .left) (c .mode-of .ensures)
+known : (c : tie.After-train-of) → SizedPassed (list (entry c)) (c .train-of .result)
+known c = sized-passed _ _ _ _ (sym (c .before .before .sized-refusal .ensures) ∙ c .before .if1 .left) (c .train-of .ensures)
 
--- the carriers and the sent bits were counted right, and the slices tested for so many
-all-carriers : (c : tie.After-symbols-of) → 48 * c .symbols-of .result ≡ carriers (entry (c .before) .args .mode) (entry (c .before) .args .n)
-all-carriers c = sized-carriers _ _ _ (known (c .before)) _ (c .symbols-of .ensures .0)
+counted : (c : tie.After-counts-of) → Tallied (list (entry (c .before))) (c .counts-of .result .n) (c .counts-of .result .symbols) (c .counts-of .result .sent)
+counted c = tallied _ _ _ _ _ (known (c .before) .list-is) (c .counts-of .ensures)
 
-counts : (c : tie.After-sent-bits) → c .sent-bits .result ≡ sentBits (entry (c .before .before .before) .args .mode) (entry (c .before .before .before) .args .n)
-counts c = c .sent-bits .ensures ∙ sized-sent _ _ _ (known (c .before .before .before))
-
+-- what was tested for the counts was tested for the list
 late : (c : tie.After-lent-refusal)
     → c .lent-refusal .result
     ≡ ladder
     (lent
-    (readingsWrong (entry (c .before .before .before .before) .args .mode) (entry (c .before .before .before .before) .args .n) (entry (c .before .before .before .before) .args .i .now) (entry (c .before .before .before .before) .args .q .now))
-    (ltb (length (entry (c .before .before .before .before) .args .soft .now)) (sentBits (entry (c .before .before .before .before) .args .mode) (entry (c .before .before .before .before) .args .n)))
+    (readingsWrong (carriersOf (list (entry (c .before .before .before .before .before)))) (entry (c .before .before .before .before .before) .args .i .now) (entry (c .before .before .before .before .before) .args .q .now))
+    (ltb (length (entry (c .before .before .before .before .before) .args .soft .now)) (sentOf (list (entry (c .before .before .before .before .before)))))
     false)
-late c = rw (← counts (c .before), ← all-carriers (c .before .before .before), ← c .before .before .readings-wrong .ensures) (c .lent-refusal .ensures)
+late c =
+    let count = counted (c .before .before .before .before) in
+    rw (← count .sent-is, ← count .carriers-is, ← c .before .before .readings-wrong .ensures) (c .lent-refusal .ensures)
 
 sized-refusal-requires : tie.Need-sized-refusal-requires
 sized-refusal-requires c κs = search needs
 
 returns : tie.Need-returns
-returns c = soften-1-to-5 _ _ _ _ _ _ (c .before .sized-refusal .ensures) (c .if1 .taken)
+unfolding Soften softenRefusal
+returns c = described-refused _ _ _ _ _ _ _ (c .before .sized-refusal .ensures) (c .if1 .taken)
 
-mode-of-requires : tie.Need-mode-of-requires
-mode-of-requires c κs = search needs
+train-of-requires : tie.Need-train-of-requires
+train-of-requires c κs = list-fit _ (sym (c .before .sized-refusal .ensures) ∙ c .if1 .left)
 
-symbols-of-requires : tie.Need-symbols-of-requires
-symbols-of-requires c κs = known c .made
+counts-of-requires : tie.Need-counts-of-requires
+counts-of-requires c κs = known c .made
 
-mul-carriers : tie.Need-mul-carriers
-mul-carriers c = search needs
+mul-readings-wrong : tie.Need-mul-readings-wrong
+mul-readings-wrong c = omega (arith, tallied-small _ _ _ _ (list-fit _ (known (c .before .before) .zero)) (counted (c .before)) .1)
 
 readings-wrong-requires : tie.Need-readings-wrong-requires
 readings-wrong-requires c κs = search needs
-
-sent-bits-requires : tie.Need-sent-bits-requires
-sent-bits-requires c κs = known (c .before .before) .made
 
 lent-refusal-requires : tie.Need-lent-refusal-requires
 lent-refusal-requires c κs = search needs
 
 returns-2 : tie.Need-returns-2
-returns-2 c = soften-7-8 _ _ _ _ _ (known (c .before .before .before .before .before) .zero) _ (late (c .before)) (c .if2 .taken)
+unfolding Soften softenRefusal
+returns-2 c = lent-refused _ _ _ _ _ _ (known (c .before .before .before .before .before .before) .zero) _ (late (c .before)) (c .if2 .taken)
 
-soften-requires : tie.Need-soften-requires
-soften-requires c κs =
-    let at = c .before .before in
-    let read = at .before .before in
-    let m = read .before .before in
-    let (wrong, short, _) = lent-passed _ _ _ (sym (at .lent-refusal .ensures) ∙ c .before .if2 .left) in
-    let right = right-counts (length (entry m .args .i .now)) (length (entry m .args .q .now)) (48 * read .before .symbols-of .result)
-    (sym (read .readings-wrong .ensures) ∙ wrong)
-    in
-    record {
-      onI = omega (arith, right .0);
-      onQ = omega (arith, right .1);
-      room = rw (known m .constellation-is, all-carriers (read .before), carriers-exact _ _ (known m .fit), ← counts (at .before)) (ltb-false _ _ short);
-    }
+soften-train-requires : tie.Need-soften-train-requires
+soften-train-requires c κs =
+    let at = c .before .before .before .before .before .before .before in
+    let same = known at .list-is in
+    let (wrong, short, _) = lent-passed _ _ _ (sym (late (c .before .before)) ∙ c .before .if2 .left) in
+    let (on-i, on-q) = right-counts (length (entry at .args .i .now)) (length (entry at .args .q .now)) (carriersOf (list (entry at))) wrong in (
+      (known at .made, omega (arith, ltb-false (length (entry at .args .soft .now)) (sentOf (list (entry at))) short, ap sentOf same)),
+      (omega (arith, on-i, ap carriersOf same), omega (arith, on-q, ap carriersOf same)),
+    )
 
 same-length : tie.Need-same-length
 same-length c = search needs
 
 returns-3 : tie.Need-returns-3
+unfolding Soften softenRefusal
 returns-3 c =
-    let at = c .before .before .before .before in
-    let read = at .before .before in
-    let m = read .before .before in
-    let start = entry m in
-    soften-done _ _ _ _ _ (known m .zero) _ (sym (late at) ∙ c .before .before .before .if2 .left)
-    (c .before .soften .ensures
-    ∙ ap₂ (λ (k : Constellation) (n : ℕ). filled n (softAt k (start .args .i .now) (start .args .q .now)) (start .args .soft .now)) (known m .constellation-is)
-    (ap₂ (λ (k : Constellation) (n : ℕ). bitsOf k * n) (known m .constellation-is) (all-carriers (read .before)) ∙ carriers-exact _ _ (known m .fit)))
+    let at = c .before .before .before .before .before .before .before .before .before in
+    all-done _ _ _ _ _ _ (known at .zero) (sym (late (c .before .before .before .before)) ∙ c .before .before .before .if2 .left) _
+    (passed-softened _ _ (known at) _ _ _ _ (c .before .soften-train .ensures))
 
 pub soften-spec : {M : Type 1} → statement M
 soften-spec =
@@ -107,13 +95,12 @@ soften-spec =
     (tie.spec
     sized-refusal-requires
     returns
-    mode-of-requires
-    symbols-of-requires
-    mul-carriers
+    train-of-requires
+    counts-of-requires
+    mul-readings-wrong
     readings-wrong-requires
-    sent-bits-requires
     lent-refusal-requires
     returns-2
-    soften-requires
+    soften-train-requires
     same-length
     returns-3)

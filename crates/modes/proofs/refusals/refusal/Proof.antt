@@ -1,64 +1,57 @@
--- `modes::refusals::refusal` is the ladder of refusals 1 to 6.
+-- `modes::refusals::refusal` is the ladder of refusals 11 and 1 to 6.
 -- Assumes nothing.
-use mathlib.Core.Path.{_≡_, sym, _∙_, ap}
-use Prim.Native.Nat.{ℕ}
-use native.Mathlib.Omega.{arith}
+use mathlib.Core.Path.{_≡_, sym, _∙_}
 use borrow.Author.Needs.{needs}
-use borrow.Author.Tests.{lt-ltb, le-ltb}
-use mathlib.Core.List.{[], _∷_}
-use Rattle.laws.specs.Ladder.{_when_, ladder}
-use Rattle.modes.specs.Modes.{info}
-use Rattle.modes.specs.Refusals.{placeAbove, lengths, described}
-use Rattle.modes.proofs.RefusalLaws.{described-stops, described-at-6, lengths-from-72}
+use Rattle.laws.specs.Ladder.{ladder}
+use Rattle.modes.specs.Pdus.{pdusOf}
+use Rattle.modes.specs.Refusals.{listTests}
+use Rattle.modes.proofs.TestLaws.{list-count, list-modes}
+use Rattle.modes.proofs.RefusalLaws.{described-list, described-rest}
 use Rattle.modes.proofs.refusals.refusal.Statement.{statement}
 use Rattle.modes.proofs.refusals.refusal.Tie as tie
 
+-- past the tests of the list
+listed : (c : tie.Else1) → ladder (listTests (pdusOf (c .before .before .args .count) (c .before .before .args .modes .now) (c .before .before .args .lengths .now))) ≡ 0
+listed c = sym (c .before .list-refusal .ensures (c .before .before .args .lengths .now)) ∙ c .if1 .left
+
+list-refusal-requires : tie.Need-list-refusal-requires
+list-refusal-requires c κs = search needs
+
 returns : tie.Need-returns
-unfolding ladder described
-returns c = simp (lt-ltb _ _ (c .if1 .taken))
+returns c = described-list _ _ _ _ (c .before .list-refusal .ensures _) (c .if1 .taken)
+
+lengths-refusal-requires : tie.Need-lengths-refusal-requires
+lengths-refusal-requires c κs = (list-count _ _ _ (listed c), list-modes _ _ _ (listed c))
+
+total-length-requires : tie.Need-total-length-requires
+total-length-requires c κs = list-count _ _ _ (listed (c .before))
+
+sum-outside-requires : tie.Need-sum-outside-requires
+sum-outside-requires c κs = search needs
+
+place-above-requires : tie.Need-place-above-requires
+place-above-requires c κs = search needs
+
+first-refusal-requires : tie.Need-first-refusal-requires
+first-refusal-requires c κs = search needs
 
 returns-2 : tie.Need-returns-2
-unfolding ladder described
-returns-2 c = simp (le-ltb _ _ (c .before .if1 .left), lt-ltb _ _ (c .if2 .taken))
-
-returns-3 : tie.Need-returns-3
-unfolding ladder described
-returns-3 c = simp (le-ltb _ _ (c .before .before .if1 .left), le-ltb _ _ (c .before .if2 .left), lt-ltb _ _ (c .if3 .taken))
-
-info-of-requires : tie.Need-info-of-requires
-info-of-requires c κs = search needs
-
-length-refusal-requires : tie.Need-length-refusal-requires
-length-refusal-requires c κs = search needs
-
--- what the test of the length said, in table 1's terms
-told : (c : tie.After-length-refusal)
-    → c .length-refusal .result ≡ ladder (lengths (info (c .before .before .before .before .before .args .mode)) (c .before .before .before .before .before .args .n))
-told c = c .length-refusal .ensures ∙ ap (λ (i : ℕ). ladder (lengths i (c .before .before .before .before .before .args .n))) (c .before .info-of .ensures .0)
-
-returns-4 : tie.Need-returns-4
-returns-4 c =
-    let e = told (c .before) in
-    e ∙ sym (described-stops _ _ _ _ (omega arith) (omega arith) (omega arith) (λ z. c .if4 .taken (e ∙ z)))
-
-sub-if5 : tie.Need-sub-if5
-sub-if5 c = lengths-from-72 _ _ (sym (told (c .before)) ∙ c .if4 .left)
-
--- past the test of the length, that of a is left
-at-6 : (c : tie.Else4) (r : ℕ)
-    → r ≡ ladder ((6 when placeAbove (c .before .before .before .before .before .before .args .n) (c .before .before .before .before .before .before .args .a)) ∷ [])
-    → r ≡ ladder (described (c .before .before .before .before .before .before .args .mode) (c .before .before .before .before .before .before .args .counter) (c .before .before .before .before .before .before .args .n) (c .before .before .before .before .before .before .args .a))
-at-6 c r e = e ∙ sym (described-at-6 _ _ _ _ (omega arith) (omega arith) (omega arith) (sym (told (c .before)) ∙ c .if4 .left))
-
-returns-5 : tie.Need-returns-5
-unfolding ladder
-returns-5 c = at-6 (c .before) 6 (simp (lt-ltb _ _ (c .if5 .taken)))
-
-returns-6 : tie.Need-returns-6
-unfolding ladder
-returns-6 c = at-6 (c .before) 0 (simp (le-ltb _ _ (c .if5 .left)))
+returns-2 c =
+    let measured = c .before .before .before .before in
+    let at = measured .before in
+    let sum = c .before .before .before .total-length .ensures (at .before .before .args .modes .now) in
+    rw (← described-rest _ _ _ (listed at), ← sum, ← measured .lengths-refusal .ensures, ← c .before .before .sum-outside .ensures, ← c .before .place-above .ensures)
+    (c .first-refusal .ensures)
 
 pub refusal-spec : {M : Type 1} → statement M
 refusal-spec =
     tie.close
-    (tie.spec returns returns-2 returns-3 info-of-requires length-refusal-requires returns-4 sub-if5 returns-5 returns-6)
+    (tie.spec
+    list-refusal-requires
+    returns
+    lengths-refusal-requires
+    total-length-requires
+    sum-outside-requires
+    place-above-requires
+    first-refusal-requires
+    returns-2)

@@ -1,4 +1,4 @@
--- `modes::refusals::sized_refusal` is the ladder of refusals 1, 3, 4 and 5.
+-- `modes::refusals::sized_refusal` is the ladder of refusals 11, 1, 3, 4 and 5.
 -- Assumes nothing.
 use mathlib.Core.Path.{_∙_}
 use Rattle.modes.proofs.RefusalLaws.{described-sized}
@@ -10,7 +10,7 @@ refusal-requires : tie.Need-refusal-requires
 refusal-requires c κs = search needs
 
 returns : tie.Need-returns
-returns c = c .refusal .ensures ∙ described-sized _ _
+returns c = c .refusal .ensures ∙ described-sized _
 
 pub sized-refusal-spec : {M : Type 1} → statement M
 sized-refusal-spec = tie.close (tie.spec refusal-requires returns)
