@@ -1,20 +1,23 @@
 """The calls that the program crates/numbers makes: a line of its input for each, and the line that it must print.
 
-`python3 host/reference.py numbers` writes both files. The first lines, those of `recorded_calls`, are the customer's
-vectors, copied in host/vectors/encode.txt: their sent bits come from there. All other lines are worked out by
-host/reference.py, and none comes from the program. crates/numbers/src/main.rt says how a line is written.
+`python3 host/reference.py numbers` writes both files. The lines of `recorded_calls` are the customer's vectors, copied
+in host/vectors/encode.txt: their sent bits come from there. Two lines of `inputs_calls` are worked by hand. All other
+lines are worked out by host/reference.py, and none comes from the program. crates/numbers/src/main.rt says how a line is
+written.
 """
 import os
 
-from reference import (MODES, SOFT, List, carriers_of, commas, decode_readings, decode_soft, drawn, encode, ideal,
-                       length_of, lengths_of, listed, mapped, octets_of, pdus_of, recorded, refusal, scrambled, sent_bits,
-                       sent_of, soften, softened, text)
+from reference import (BCH, MODES, SOFT, WORKED, List, bits_of, carriers_of, commas, counter_of, decode_readings,
+                       decode_refusal, decode_soft, drawn, encode, ideal, inputs, length_of, lengths_of, listed, made_bch,
+                       mapped, octets_of, origins, pdus_of, recorded, refusal, scrambled, sent_bits, sent_of, soften,
+                       softened, text)
 
 HERE = os.path.dirname(os.path.abspath(__file__))
 VECTORS = os.path.join(HERE, "vectors", "encode.txt")
 NUMBERS = os.path.join(HERE, "..", "crates", "numbers")
 
 MOST = 2 ** 32 - 1
+ROOM = 2 ** 18  # for all lines of the input; the program reads no more
 MARK = 7  # what the program fills its buffers with before it lends them
 MARK_SOFT = 100  # the same for soft bytes
 
@@ -35,7 +38,7 @@ def written(train):
 
 
 def encode_line(train, counter, a, octets, room):
-    return f"encode {written(train)} {counter} {a} {octets.hex() or '-'} {room}"
+    return f"encode {train.kind} {written(train)} {counter} {a} {octets.hex() or '-'} {room}"
 
 
 def encode_call(train, counter, a, octets, room):
@@ -68,21 +71,23 @@ def answered(train, room_octets, room_words, no, symbols, sent, cost, mark, octe
 
 
 def decode_soft_call(train, counter, a, soft, room_octets, room_words):
-    line = f"decode_soft {written(train)} {counter} {a} {signed(soft, 2)} {room_octets} {room_words}"
+    line = f"decode_soft {train.kind} {written(train)} {counter} {a} {signed(soft, 2)} {room_octets} {room_words}"
     answer = decode_soft(train, counter, a, soft, room_octets, room_words)
     return line, answered(train, room_octets, room_words, *answer)
 
 
 def decode_readings_call(train, counter, a, i, q, room_octets, room_words):
-    line = f"decode_readings {written(train)} {counter} {a} {signed(i, 4)} {signed(q, 4)} {room_octets} {room_words}"
+    readings = f"{signed(i, 4)} {signed(q, 4)}"
+    line = f"decode_readings {train.kind} {written(train)} {counter} {a} {readings} {room_octets} {room_words}"
     answer = decode_readings(train, counter, a, i, q, room_octets, room_words)
     return line, answered(train, room_octets, room_words, *answer)
 
 
-def recorded_calls():
+def recorded_calls(kind):
     """The customer's trains. Their sent bits are copied from the file and not worked out here."""
-    for *call, bits in recorded(VECTORS):
-        yield encode_line(*call, len(bits)), f"0 {bits}"
+    for train, *others, bits in recorded(VECTORS):
+        if train.kind == kind:
+            yield encode_line(train, *others, len(bits)), f"0 {bits}"
 
 
 # Trains of one PDU.
@@ -137,7 +142,7 @@ def stated_calls():
 def ideal_calls():
     """The shortest train of each mode and a longest one; then refusals 1, 3, 4, 5, 7, 8, 9, as above."""
     for mode, n in [*((mode, lengths_of(mode)[0]) for mode in MODES), (7, 3456)]:
-        carriers, sent = n // MODES[mode].info * 48, sent_bits([(mode, n)], mode, 0, drawn(f"ideal {mode}", n // 8))
+        carriers, sent = n // MODES[mode].info * 48, sent_bits(listed((mode, n)), mode, 0, drawn(f"ideal {mode}", n // 8))
         yield ideal_call(listed((mode, n)), sent, carriers, carriers + mode)
     one = [k // 3 % 2 for k in range(96)]
     for mode, n, *others in [
@@ -173,9 +178,8 @@ def noisy(label, values, most, limit):
 
 
 def ideal_readings(train, counter, a, octets):
-    pdus = pdus_of(train)
-    room = len(carriers_of(pdus))
-    return ideal(train, sent_bits(pdus, counter, a, octets), room, room)[1:]
+    room = len(carriers_of(pdus_of(train)))
+    return ideal(train, sent_bits(train, counter, a, octets), room, room)[1:]
 
 
 def noisy_readings(label, train, counter, a, octets, most):
@@ -323,7 +327,7 @@ def mixed_sendings():
         yield encode_call(train, counter, a, octets, sent_of(pdus) + k % 3)
         if k % 2 == 0 and is_small(train):
             room = len(carriers_of(pdus))
-            yield ideal_call(train, sent_bits(pdus, counter, a, octets), room, room + 2)
+            yield ideal_call(train, sent_bits(train, counter, a, octets), room, room + 2)
 
 
 def mixed_decodes():
@@ -348,7 +352,7 @@ def refused_lists():
     octets, (sent, carriers) = bytes(range(27)), (144 + 192, 48 * 4)
     for given, room in (octets[1:], sent), (octets + b"0", sent), (octets, sent - 1):
         yield encode_call(CONTROL, 1, 100, given, room)
-    bits = sent_bits(pdus_of(CONTROL), 1, 100, octets)
+    bits = sent_bits(CONTROL, 1, 100, octets)
     for given, room in (bits[1:], carriers), (bits, carriers - 1), (bits[:-1] + [2], carriers):
         yield ideal_call(CONTROL, given, carriers, room)
     soft = [20 if bit else -20 for bit in bits]
@@ -359,12 +363,162 @@ def refused_lists():
         yield soften_call(CONTROL, on_i, on_q, room)
 
 
+# BCH.
+
+def bch(*pdus):
+    return listed(*pdus, kind="bch")
+
+
+def inputs_call(kind, counter, octets, many):
+    """Past the bits of the octets come zeros."""
+    found = inputs(kind, counter, bits_of(octets)) + [0] * many
+    return f"inputs {kind} {counter} {octets.hex() or '-'} {many}", text(found[:many])
+
+
+def inputs_calls():
+    """The examples that are worked by hand, whose inputs are copied; a BCH of each counter, with its tail; octets that do
+    not begin with the counter, which is not asked for here; fewer octets than inputs, and fewer inputs than octets."""
+    for kind, (counter, octets, found) in WORKED.items():
+        yield inputs_call(kind, counter, bytes.fromhex(octets), len(found))[0], found
+    for counter in range(16):
+        yield inputs_call("bch", counter, made_bch(counter)[-1], 126)
+    for counter, octets, many in (11, "49d0", 16), (4, "49", 13), (15, "", 9), (4, "49d0", 5), (4, "49d0", 3):
+        for kind in ("bch", "data"):
+            yield inputs_call(kind, counter, bytes.fromhex(octets), many)
+
+
+def bch_sendings():
+    """A BCH of each counter; the same octets as data; numbers past the count. Then first bits that are not the counter:
+    n1 first, a bit wrong, all wrong, and the counter in the octet's other half."""
+    for counter in range(16):
+        yield encode_call(*made_bch(counter), 240 + counter % 3)
+    for counter in (0b0001, 0b1000, 0b0111):
+        train, *others = made_bch(counter)
+        yield encode_call(train._replace(kind="data"), *others, 240)
+        yield encode_call(List(1, [1, 8, MOST], [120, 73, MOST], "bch"), *others, 240)
+    for counter, first in [
+        (0b0001, 0x80), (0b1000, 0x10), (0b0111, 0xE0), (0b1110, 0x70), (0b0100, 0x20),
+        (0b0100, 0x50), (0b0100, 0xC0), (0, 0xF0), (15, 0x00), (0b0100, 0x04), (0b1001, 0x69),
+    ]:
+        yield encode_call(bch((1, 120)), counter, 0, bytes([first]) + bytes(range(14)), 240)
+
+
+# What encoding and what decoding refuses, and descriptions, most with all later reasons; what is lent with them never fits.
+# Decoding does not read the counter.
+BCH_LADDER = [
+    (11, 11, List(0, [8], [64], "bch"), 16, MOST), (11, 11, List(17, [1] * 16, [120] * 16, "bch"), 99, MOST),
+    (1, 1, bch((8, 64)), 16, MOST), (1, 1, bch((1, 120), (0, 120)), MOST, MOST),
+    (2, 3, bch((1, 64)), 16, MOST), (2, 4, bch((1, 124)), 99, MOST), (2, 5, bch((3, 120)), 16, MOST),
+    (2, 3, bch((1, 3456), (1, 120)), MOST, MOST), (2, 6, bch((1, 120)), 16, 49), (2, 12, bch((1, 120)), 16, 48),
+    (2, 12, bch((1, 96)), 99, 0), (2, 7, bch((1, 120)), 16, 0), (2, 7, bch((1, 120)), 99, 0), (2, 7, bch((1, 120)), MOST, 0),
+    (3, 3, bch((1, 64), (1, 124)), 15, MOST), (4, 4, bch((1, 124), (1, 64)), 15, MOST), (5, 5, bch((2, 120)), 15, MOST),
+    (5, 5, bch((1, 120), (3, 120)), 15, MOST), (3, 3, bch((1, 120), (1, 3384)), 15, MOST),
+    (6, 6, bch((1, 120)), 15, 49), (6, 6, bch((1, 96)), 15, 25), (6, 6, bch((4, 72)), 15, 1),
+    (6, 6, bch((1, 120), (1, 72)), 15, 121),
+    (12, 12, bch((1, 120)), 15, 48), (12, 12, bch((1, 96)), 15, 24), (12, 12, bch((4, 72)), 15, 0),
+    (12, 12, bch((1, 120), (1, 72)), 15, 120), (12, 12, SIXTEEN._replace(kind="bch"), 0, 0), (7, 7, bch((1, 120)), 15, 0),
+]
+
+
+def bch_ladder():
+    for encodes, decodes, train, counter, a in BCH_LADDER:
+        assert (refusal(train, counter, a) or 7, decode_refusal(train, counter, a) or 7) == (encodes, decodes)
+        yield encode_call(train, counter, a, b"", 3)
+        yield decode_soft_call(train, counter, a, [81], 2, 3)
+        yield decode_readings_call(train, counter, a, [1], [], 2, 3)
+
+
+def near_bchs():
+    """Calls that only 12 refuses, for each of its causes: as data they pass."""
+    for train, a in (
+        (bch((1, 120), (1, 72)), 0), (bch((1, 96)), 0), (bch((1, 144)), 0), (bch((4, 72)), 0),
+        (bch((1, 120)), 1), (bch((1, 120)), 48),
+    ):
+        n, counter = length_of(pdus_of(train)), 15
+        octets = octets_of([1] * 4 + bits_of(drawn(f"near {n} {a}", n // 8))[4:])
+        bits = sent_bits(train, counter, a, octets)
+        assert encode(train, counter, a, octets, len(bits))[0] == 12
+        yield encode_call(train, counter, a, octets, len(bits))
+        yield encode_call(train._replace(kind="data"), counter, a, octets, len(bits))
+        soft = [32 if bit else -32 for bit in bits]
+        yield decode_soft_call(train, counter, a, soft, n // 8, n + 6)
+        if n == 72 or a == 48:
+            yield decode_readings_call(train, counter, a, *ideal_readings(train, counter, a, octets), n // 8, n + 6)
+
+
+def refused_bchs():
+    """2 where the lowest four bits are right; 7 before 8 before first bits that are not the counter; 7, 8 and 9 of decodes,
+    which are given any counter. Each is one element away from a good call, or has the later reasons too."""
+    train, counter, a, octets = made_bch(13)
+    for above in (16, 2 ** 31):
+        yield encode_call(train, above + counter, a, octets, 240)
+    wrong = bytes([octets[0] ^ 0x80]) + octets[1:]
+    for no, given, room in (
+        (7, wrong[1:], 0), (7, octets[1:], 240), (7, wrong + b"0", 240), (8, wrong, 0), (8, wrong, 239), (8, octets, 239),
+        (12, wrong, 240), (12, wrong, 300), (0, octets, 240),
+    ):
+        assert encode(train, counter, a, given, room)[0] == no
+        yield encode_call(train, counter, a, given, room)
+    i, q = ideal_readings(train, counter, a, octets)
+    soft = softened(pdus_of(train), i, q)
+    bad = [81] + soft[1:]
+    for given, *rooms in (
+        (bad[1:], 0, 0), (soft + [0], 15, 126), (bad, 14, 126), (bad, 15, 125), (bad, 15, 126), (soft[:-1] + [-128], 99, 200),
+    ):
+        yield decode_soft_call(train, 99, a, given, *rooms)
+    for on_i, on_q, *rooms in (i[1:], q, 0, 0), (i, q + [0], 15, 126), (i, q, 14, 126), (i, q, 15, 125):
+        yield decode_readings_call(train, 99, a, on_i, on_q, *rooms)
+
+
+def without_counter(label, values, most):
+    """What a BCH's sent bits are heard as, where noise takes the place of those that hang on the counter: inputs 0 to 3 are
+    in X and Y of inputs 0 to 9."""
+    return [other if m // 2 < 10 else v for v, other, m in zip(values, noise(label, len(values), most), origins(*BCH))]
+
+
+def bch_decodes():
+    """All soft bytes alike; the customer's trains and a BCH of each counter as they were sent, and some through noise. The
+    counters that are given are not read. Where noise takes the counter another one may be found."""
+    train, (_, a) = bch((1, 120)), BCH
+    zeros = decode_soft(train, 99, a, [0] * 240, 15, 126)
+    assert zeros[3:] == (0, "D", octets_of(inputs("bch", 0, [0] * 120)))
+    for byte in (0, 1, -1):
+        yield decode_soft_call(train, 99, a, [byte] * 240, 15 + abs(byte), 130)
+    clear = [(octets, [24 if bit == "1" else -24 for bit in bits])
+             for recorded_train, _, _, octets, bits in recorded(VECTORS) if recorded_train.kind == "bch"]
+    clear += [(octets, softened(BCH[0], *ideal_readings(*call, octets))) for *call, octets in map(made_bch, range(16))]
+    for k, (octets, soft) in enumerate(clear):
+        assert decode_soft(train, MOST, a, soft, 15, 126)[3:] == (0, "C", octets)
+        yield decode_soft_call(train, (0, 15, 16, 99, MOST)[k % 5], a, soft, 15 + k % 2, 126)
+    yield from noisy_bchs(clear)
+
+
+def noisy_bchs(clear):
+    """Soft bytes with noise on all, and then on the counter's alone and on both; readings likewise."""
+    train, (_, a) = bch((1, 120)), BCH
+    found = []
+    for k, (octets, soft) in enumerate(clear[:12]):
+        heard = noisy(f"bch {k}", soft, 30, 80) if k % 3 != 1 else soft
+        heard = without_counter(f"counter {k}", heard, 60) if k % 3 else heard
+        found.append((counter_of(bits_of(octets)), counter_of(bits_of(decode_soft(train, 0, a, heard, 15, 126)[-1]))))
+        yield decode_soft_call(train, 3 * k, a, heard, 15, 126)
+    assert {sent == told for sent, told in found} == {True, False}
+    for k in range(6):
+        *call, octets = made_bch(5 * k % 16)
+        i, q = noisy_readings(f"bch {k}", *call, octets, 300)
+        i = without_counter(f"readings {k}", i, 900) if k % 2 else i
+        yield decode_readings_call(train, 99 * k, a, i, q, 15, 126)
+
+
 def write():
     calls = [
-        *recorded_calls(), *train_calls(), *refused_calls(), *stated_calls(), *ideal_calls(), *mapped_calls(),
+        *recorded_calls("data"), *train_calls(), *refused_calls(), *stated_calls(), *ideal_calls(), *mapped_calls(),
         *soften_calls(), *decode_calls(), *refused_decodes(),
         *list_ladder(), *mixed_sendings(), *mixed_decodes(), *refused_lists(),
+        *inputs_calls(), *recorded_calls("bch"), *bch_sendings(), *bch_ladder(), *near_bchs(), *refused_bchs(),
+        *bch_decodes(),
     ]
+    assert sum(len(line) + 1 for line, _ in calls) < ROOM
     for name, side in ("stdin", 0), ("stdout", 1):
         with open(os.path.join(NUMBERS, name), "w", encoding="ascii") as file:
             file.writelines(call[side] + "\n" for call in calls)

@@ -2,18 +2,18 @@
 """The whole modem in plain Python: slow, obvious, and written from the documents alone.
 
 It follows clauses 5.2 to 5.5 of ETSI TS 101 475 and, where that leaves something open, the project's own rules
-(document 01, and the request for lists of PDUs). It shares no code, table or definition with the crates, so that an
-agreement of the two means something.
+(document 01, and the requests for lists of PDUs and for BCH). It shares no code, table or definition with the crates,
+so that an agreement of the two means something.
 
-    python3 host/reference.py check FILE     encode the data trains in FILE and count those that agree
+    python3 host/reference.py check FILE     encode the trains in FILE and count those that agree
     python3 host/reference.py decoded FILE   decode the soft bytes of each line of FILE and count those that agree
     python3 host/reference.py trains COUNT   print COUNT trains in FILE's form, over all modes, lengths, lists of PDUs and
-                                             places of P1
+                                             places of P1, and 16 of BCH, one for each counter
     python3 host/reference.py numbers        write crates/numbers/stdin and crates/numbers/stdout (host/number_calls.py)
 
-A line of FILE: kind, modes, counter, lengths, a, octets in hex, sent bits; modes and lengths have commas between them.
-host/vectors/encode.txt is such a file: the data trains of the customer's vectors, as they came. For `decoded`: kind,
-modes, counter, lengths, a, the soft bytes, `=`, refusal, symbols, n, cost, mark, octets in hex, as in the customer's
+A line of FILE: kind (data or bch), modes, counter, lengths, a, octets in hex, sent bits; modes and lengths have commas
+between them. host/vectors/encode.txt is such a file: the customer's vectors, as they came. For `decoded`: kind, modes,
+counter, lengths, a, the soft bytes, `=`, refusal, symbols, n, cost, mark, octets in hex, as in the customer's
 decode.txt.
 """
 import hashlib
@@ -33,9 +33,11 @@ MODES = {
     6: Mode(4, "3/4", 192, 144),
     7: Mode(6, "3/4", 288, 216),
 }
-# The PDUs of a train as the calls take them: how many, and modes and lengths, of which those past the count are not read.
-# Below, pdus are the mode and the length of each, as good ones have them.
-List = namedtuple("List", "count modes lengths")
+# The PDUs of a train as the calls take them: how many, and modes and lengths, of which those past the count are not read;
+# and the train's kind, data or bch. Below, pdus are the mode and the length of each, as good ones have them.
+List = namedtuple("List", "count modes lengths kind", defaults=["data"])
+# What a BCH must be: its PDUs, and a.
+BCH = [(1, 120)], 0
 # Table 2, the rows X and Y. Table 3, the rows b0 and b1 of each rate.
 P1_X, P1_Y = "1111110111111", "1111111111110"
 P2 = {"1/2": ("1", "1"), "3/4": ("110", "101"), "9/16": ("111111110", "111101111")}
@@ -51,8 +53,8 @@ D = {1: 1, 2: 2, 4: 10, 6: 42}
 
 # Lists of PDUs, and their counts.
 
-def listed(*pdus):
-    return List(len(pdus), [mode for mode, _ in pdus], [n for _, n in pdus])
+def listed(*pdus, kind="data"):
+    return List(len(pdus), [mode for mode, _ in pdus], [n for _, n in pdus], kind)
 
 
 def pdus_of(train):
@@ -103,6 +105,18 @@ def scrambled(bits, counter):
     return out
 
 
+def inputs(kind, counter, bits):
+    """The bits as they enter the encoder, or, of such bits, back: the first four of a BCH, its counter, are not scrambled,
+    and the scrambler starts at the fifth."""
+    clear = 4 if kind == "bch" else 0
+    return bits[:clear] + scrambled(bits[clear:], counter)
+
+
+def counter_of(bits):
+    """What the first four bits of a BCH are: n4 first, the highest."""
+    return int(text(bits[:4]), 2)
+
+
 def coded(bits):
     """Clause 5.3.1.1: the outputs X and Y at each input, from the zero state."""
     past = [0] * 6 + bits
@@ -148,9 +162,9 @@ def interleaved(bits, mode):
     return out
 
 
-def coded_train(counter, a, octets):
+def coded_train(kind, counter, a, octets):
     """The whole train up to P1's output."""
-    x, y = coded(scrambled(bits_of(octets), counter) + [0] * 6)
+    x, y = coded(inputs(kind, counter, bits_of(octets)) + [0] * 6)
     return p1(x, y, a)
 
 
@@ -164,8 +178,8 @@ def shared(pdus, bits):
     return out
 
 
-def sent_bits(pdus, counter, a, octets):
-    return shared(pdus, coded_train(counter, a, octets))
+def sent_bits(train, counter, a, octets):
+    return shared(pdus_of(train), coded_train(train.kind, counter, a, octets))
 
 
 def levels(group):
@@ -225,8 +239,8 @@ def softened(pdus, i, q):
 
 def origins(pdus, a):
     """Which coded bit each sent bit is, by sending the coded bits' own numbers: X of input t is 2 t, Y is 2 t + 1."""
-    inputs = range(length_of(pdus) + 6)
-    return shared(pdus, p1([2 * t for t in inputs], [2 * t + 1 for t in inputs], a))
+    steps = range(length_of(pdus) + 6)
+    return shared(pdus, p1([2 * t for t in steps], [2 * t + 1 for t in steps], a))
 
 
 # What an input and the state before it, its last six inputs with the newest the highest, give: X, Y and the state after.
@@ -237,9 +251,10 @@ STEP = {(state, bit): (*(sum(past[lag] for lag in lags) % 2 for lags in ((0, 2, 
 
 
 def best_train(n, cost):
-    """The least cost of a scrambled train of n bits and, of the trains of that cost, the one with 0 at the last place where
-    two of them differ. cost[t] gives what each pair X, Y costs at input t. A train is kept as a number, its last bit the
-    highest: of two of equal cost the smaller number is the one wanted, and what follows both changes nothing in that."""
+    """The least cost of a train of n bits, as they enter the encoder, and, of the trains of that cost, the one with 0 at the
+    last place where two of them differ. cost[t] gives what each pair X, Y costs at input t. A train is kept as a number, its
+    last bit the highest: of two of equal cost the smaller number is the one wanted, and what follows both changes nothing in
+    that."""
     least = {0: (0, 0)}
     for t, pair in enumerate(cost):
         reached = {}
@@ -280,16 +295,17 @@ def bit_cost(soft, bit):
     return max(0, -soft if bit else soft)
 
 
-def decoded(pdus, counter, a, soft):
+def decoded(kind, pdus, counter, a, soft):
     """The cost, the mark and the octets of the train that is returned. It is confirmed where every other train v has
-    2 cost(v) - (bits in which v differs from it) above twice its own cost."""
+    2 cost(v) - (bits in which v differs from it) above twice its own cost. A BCH tells its own counter."""
     n, at = length_of(pdus), origins(pdus, a)
     cost, train = best_train(n, pairs(n, at, lambda q, bit: bit_cost(soft[q], bit)))
     x, y = coded(train + [0] * 6)
     own = in_turn(x, y)
     sent = [own[m] for m in at]
     rival = least_rival(n, pairs(n, at, lambda q, bit: 2 * bit_cost(soft[q], bit) - (bit != sent[q])), train)
-    return cost, "C" if rival > 2 * cost else "D", octets_of(scrambled(train, counter))
+    told = counter_of(train) if kind == "bch" else counter
+    return cost, "C" if rival > 2 * cost else "D", octets_of(inputs(kind, told, train))
 
 
 # The calls, refusals in the order of the documents. A call without a parameter skips its test.
@@ -304,6 +320,7 @@ def length_refusal(mode, n):
 
 
 def refusal(train, counter=None, a=None):
+    """What a description is refused with. A call without an a has no kind."""
     if not 1 <= train.count <= 16:
         return 11
     pdus = pdus_of(train)
@@ -316,7 +333,14 @@ def refusal(train, counter=None, a=None):
             return no
     if length_of(pdus) > 3456:
         return 3
-    return 6 if a is not None and a > length_of(pdus) - 72 else 0
+    if a is not None and a > length_of(pdus) - 72:
+        return 6
+    return 12 if a is not None and train.kind == "bch" and (pdus, a) != BCH else 0
+
+
+def decode_refusal(train, counter, a):
+    """The counter of a BCH is not read."""
+    return refusal(train, None if train.kind == "bch" else counter, a)
 
 
 def encode(train, counter, a, octets, room):
@@ -326,7 +350,9 @@ def encode(train, counter, a, octets, room):
         no = 7
     if no == 0 and room < sent_of(pdus):
         no = 8
-    return (no, []) if no else (0, sent_bits(pdus, counter, a, octets))
+    if no == 0 and train.kind == "bch" and counter_of(bits_of(octets)) != counter:
+        no = 12
+    return (no, []) if no else (0, sent_bits(train, counter, a, octets))
 
 
 def ideal(train, sent, room_i, room_q):
@@ -354,9 +380,8 @@ def mapped(mode, group):
     return 0, point(MODES[mode].carrier, group)
 
 
-def readings_refusal(train, i, q, counter=None, a=None):
-    """Refusals up to 7 of a call that reads I and Q."""
-    no = refusal(train, counter, a)
+def readings_refusal(no, train, i, q):
+    """Refusal 7 of a call that reads I and Q, unless the description has another."""
     if no == 0 and {len(i), len(q)} != {48 * symbols_of(pdus_of(train))}:
         no = 7
     return no
@@ -364,7 +389,7 @@ def readings_refusal(train, i, q, counter=None, a=None):
 
 def soften(train, i, q, room):
     """The refusal and the soft bytes at the start of the lent ones."""
-    no, pdus = readings_refusal(train, i, q), pdus_of(train)
+    no, pdus = readings_refusal(refusal(train), train, i, q), pdus_of(train)
     if no == 0 and room < sent_of(pdus):
         no = 8
     return (no, []) if no else (0, softened(pdus, i, q))
@@ -377,28 +402,29 @@ def is_short(pdus, room_octets, room_words):
     return room_octets < length_of(pdus) // 8 or room_words < length_of(pdus) + 6
 
 
-def answer(pdus, counter, a, soft):
-    return 0, symbols_of(pdus), len(soft), *decoded(pdus, counter, a, soft)
+def answer(train, counter, a, soft):
+    pdus = pdus_of(train)
+    return 0, symbols_of(pdus), len(soft), *decoded(train.kind, pdus, counter, a, soft)
 
 
 def decode_soft(train, counter, a, soft, room_octets, room_words):
     """The refusal, symbols, n, the rounded cost, the mark (C confirmed, D done, - refused) and the octets."""
-    no, pdus = refusal(train, counter, a), pdus_of(train)
+    no, pdus = decode_refusal(train, counter, a), pdus_of(train)
     if no == 0 and len(soft) != sent_of(pdus):
         no = 7
     if no == 0 and is_short(pdus, room_octets, room_words):
         no = 8
     if no == 0 and any(not -80 <= byte <= 80 for byte in soft):
         no = 9
-    return (no, *NOTHING) if no else answer(pdus, counter, a, soft)
+    return (no, *NOTHING) if no else answer(train, counter, a, soft)
 
 
 def decode_readings(train, counter, a, i, q, room_octets, room_words):
     """The same of the readings' soft bytes."""
-    no, pdus = readings_refusal(train, i, q, counter, a), pdus_of(train)
+    no, pdus = readings_refusal(decode_refusal(train, counter, a), train, i, q), pdus_of(train)
     if no == 0 and is_short(pdus, room_octets, room_words):
         no = 8
-    return (no, *NOTHING) if no else answer(pdus, counter, a, softened(pdus, i, q))
+    return (no, *NOTHING) if no else answer(train, counter, a, softened(pdus, i, q))
 
 
 # Document 01, "Numbers to hold against": bits on the axis, bit, reading, soft byte.
@@ -409,10 +435,23 @@ SOFT = [
 ]
 
 
-# Document 01's own examples, held against the stages above before anything else is done.
+# The standard's own example of the scrambler, worked by hand: counter 0100, so stages 7 to 1 start as 111 0100. The output
+# is stage 7 xor stage 4, and comes in at stage 1:
+#
+#     1110100 1   1101001 0   1010010 1   0100101 0   1001010 0   0010100 0
+#     0101000 1   1010001 1   0100011 0   1000110 1   0001101 1
+#
+# Data is scrambled from its first bit:                     1001 1101 000  xor 1010 0011 011 is 0011 1110 011.
+# A BCH has the counter in front, which goes as it is:  0100 1001 1101      xor      1010 0011 is 0100 0011 1110.
+# By kind: counter, octets (zeros behind the bits), the inputs of the encoder.
+WORKED = {"bch": (4, "49d0", "010000111110"), "data": (4, "9d00", "00111110011")}
+
+
+# The documents' own examples, held against the stages above before anything else is done.
 
 def known():
-    assert text(scrambled([1, 0, 0, 1, 1, 1, 0, 1, 0, 0, 0], 4)) == "00111110011"
+    for kind, (counter, octets, found) in WORKED.items():
+        assert text(inputs(kind, counter, bits_of(bytes.fromhex(octets)))).startswith(found)
     assert text(in_turn(*coded([1, 0, 0, 0, 0, 0, 0]))) == "11011111001011"
     for mode, k, j in ((1, 1, 3), (1, 17, 4), (5, 1, 13), (5, 2, 24), (7, 1, 20), (7, 17, 18)):
         assert place(k, MODES[mode]) == j
@@ -428,26 +467,25 @@ def numbers_in(word):
     return [*map(int, word.split(","))]
 
 
-def train_of(modes, counter, lengths, a):
+def train_of(kind, modes, counter, lengths, a):
     """A description as a line writes it: list, counter, a."""
-    return listed(*zip(numbers_in(modes), numbers_in(lengths))), int(counter), int(a)
+    return listed(*zip(numbers_in(modes), numbers_in(lengths)), kind=kind), int(counter), int(a)
 
 
 def recorded(path):
-    """The data trains in a file: list, counter, a, octets, sent bits as text."""
+    """The trains in a file: list, counter, a, octets, sent bits as text."""
     for line in open(path, encoding="ascii"):
-        kind, *described, octets, bits = line.split()
-        if kind == "data":
-            yield *train_of(*described), bytes.fromhex(octets), bits
+        *described, octets, bits = line.split()
+        yield *train_of(*described), bytes.fromhex(octets), bits
 
 
 def recorded_decodes(path):
     """The decodes of soft bytes in a file: list, counter, a, soft bytes, and what the call answers."""
     for line in open(path, encoding="ascii"):
         call, _, told = line.partition(" = ")
-        _, *words = call.split()
+        words = call.split()
         *counts, mark, octets = told.split()
-        yield *train_of(*words[:4]), [*map(int, words[4:])], (*map(int, counts), mark, bytes.fromhex(octets))
+        yield *train_of(*words[:5]), [*map(int, words[5:])], (*map(int, counts), mark, bytes.fromhex(octets))
 
 
 def drawn(label, count):
@@ -463,7 +501,7 @@ def lengths_of(mode):
 
 
 def made(k):
-    """The k-th of a fixed sequence of trains, with its sent bits: one PDU and several in turn."""
+    """The k-th of a fixed sequence of data trains: one PDU and several in turn."""
     def pick(what, among):
         return among[int.from_bytes(drawn(f"{what} {k}", 8), "big") % len(among)]
 
@@ -480,8 +518,14 @@ def made(k):
         pdus = [(mode, pick("length", lengths_of(mode)))]
     last = length_of(pdus) - 72
     a = pick("place", [0, last, pick("within", range(last + 1)), min(last, pdus[0][1] - 36)])
-    counter, octets = pick("counter", range(16)), drawn(f"octets {k}", length_of(pdus) // 8)
-    return listed(*pdus), counter, a, octets, text(sent_bits(pdus, counter, a, octets))
+    return listed(*pdus), pick("counter", range(16)), a, drawn(f"octets {k}", length_of(pdus) // 8)
+
+
+def made_bch(counter):
+    """A BCH of this counter: its first four bits, before others that look random."""
+    pdus, a = BCH
+    octets = octets_of(bits_of([counter << 4])[:4] + bits_of(drawn(f"bch {counter}", 15))[4:])
+    return listed(*pdus, kind="bch"), counter, a, octets
 
 
 def commas(values):
@@ -492,7 +536,7 @@ def main(words):
     known()
     if words[:1] == ["check"] and len(words) == 2:
         trains = list(recorded(words[1]))
-        same = sum(text(sent_bits(pdus_of(train), *others)) == bits for train, *others, bits in trains)
+        same = sum(text(sent_bits(*train)) == bits for *train, bits in trains)
         print(f"{same} of {len(trains)} trains agree")
         sys.exit(0 if trains and same == len(trains) else 1)
     elif words[:1] == ["decoded"] and len(words) == 2:
@@ -502,9 +546,9 @@ def main(words):
         print(f"{same} of {len(calls)} decodes agree")
         sys.exit(0 if calls and same == len(calls) else 1)
     elif words[:1] == ["trains"] and len(words) == 2:
-        for k in range(int(words[1])):
-            train, counter, a, octets, bits = made(k)
-            print("data", commas(train.modes), counter, commas(train.lengths), a, octets.hex(), bits)
+        for train, counter, a, octets in [*map(made, range(int(words[1]))), *map(made_bch, range(16))]:
+            bits = text(sent_bits(train, counter, a, octets))
+            print(train.kind, commas(train.modes), counter, commas(train.lengths), a, octets.hex(), bits)
     elif words == ["numbers"]:
         from number_calls import write
         write()

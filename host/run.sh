@@ -4,8 +4,9 @@
 #
 #     host/run.sh [COUNT]
 #
-# At least COUNT random calls are made, 100,000 where it is not given, half of them with lists of several PDUs. It needs
-# cargo, rustc, python3, and what host/search/run.sh needs. Variables name the tools, as host/machine.sh says, and
+# At least COUNT random calls are made for data, 100,000 where it is not given, half of them with lists of several PDUs,
+# and a fifth as many more for BCH. It needs cargo, rustc, python3, and what host/search/run.sh needs. Variables name the
+# tools, as host/machine.sh says, and
 #
 #     JUZAMBORE_LIB          a folder with ready libjuzambore.a and libgauge.a; without it `rt staticlib` makes both
 set -eu

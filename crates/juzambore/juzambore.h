@@ -6,7 +6,10 @@
  *
  * A train is a list of 1 to 16 PDUs, each with its mode and its length in information bits. `modes` and `lengths` point
  * to SIXTEEN numbers ALWAYS, whatever `count` says; those past the count are not read. N, symbols and n are sums over
- * the PDUs. `a` is where P1 begins, counted from the train's first bit. */
+ * the PDUs. `a` is where P1 begins, counted from the train's first bit.
+ *
+ * A train has a kind: 0 is data, any other number is BCH. A BCH is one PDU of 120 bits in mode 1 with a = 0; its first
+ * four bits are the frame counter, highest bit first, and are not scrambled. */
 #ifndef JUZAMBORE_H
 #define JUZAMBORE_H
 
@@ -30,8 +33,8 @@ typedef struct {
     uint32_t confirmed;
 } juzambore_answer;
 
-/* The sent bits of a train, one to a byte. Refusals 11, 1 to 8. */
-uint32_t juzambore_encode(uint32_t count, const uint32_t modes[16], const uint32_t lengths[16],
+/* The sent bits of a train, one to a byte. Refusals 11, 1 to 8; of a BCH 12 too. */
+uint32_t juzambore_encode(uint32_t kind, uint32_t count, const uint32_t modes[16], const uint32_t lengths[16],
                           uint32_t counter, uint32_t a,
                           const uint8_t *octets, size_t octets_len,
                           uint8_t *sent, size_t sent_len);
@@ -52,15 +55,18 @@ uint32_t juzambore_soften(uint32_t count, const uint32_t modes[16], const uint32
                           int8_t *soft, size_t soft_len);
 
 /* The train of least cost, from soft bytes. It needs N / 8 octets out and N + 6 working words, which are zero after
- * success; what they held before does not matter. Refusals 11, 1 to 9. */
-juzambore_answer juzambore_decode_soft(uint32_t count, const uint32_t modes[16], const uint32_t lengths[16],
+ * success; what they held before does not matter. The counter of a BCH comes from the train that is found: the caller's
+ * is not read. Refusals 11, 1 to 9; of a BCH 12 too, and not 2. */
+juzambore_answer juzambore_decode_soft(uint32_t kind, uint32_t count,
+                                       const uint32_t modes[16], const uint32_t lengths[16],
                                        uint32_t counter, uint32_t a,
                                        const int8_t *soft, size_t soft_len,
                                        uint8_t *octets, size_t octets_len,
                                        uint64_t *words, size_t words_len);
 
-/* The same from readings: the soft bytes are made and decoded. Refusals 11, 1 to 8. */
-juzambore_answer juzambore_decode_readings(uint32_t count, const uint32_t modes[16], const uint32_t lengths[16],
+/* The same from readings: the soft bytes are made and decoded. Refusals 11, 1 to 8; of a BCH 12 too, and not 2. */
+juzambore_answer juzambore_decode_readings(uint32_t kind, uint32_t count,
+                                           const uint32_t modes[16], const uint32_t lengths[16],
                                            uint32_t counter, uint32_t a,
                                            const int16_t *i, size_t i_len,
                                            const int16_t *q, size_t q_len,

@@ -11,7 +11,7 @@ use lib.ListN.{length, getD, List·getD-append}
 use lib.Seq.{getD-append-add}
 use Rattle.laws.specs.Lists.{choose, tabulate}
 use Rattle.laws.proofs.ListLaws.{tabulate-length, tabulate-at}
-use Rattle.coder.specs.Scrambler.{scrambledBit, scrambled}
+use Rattle.coder.specs.Scrambler.{maskedBit, scrambledFrom}
 use Rattle.coder.specs.Encoder.{tail, tailed}
 use Rattle.coder.specs.Train.{Train}
 use Rattle.coder.proofs.EncoderLaws.{Bits}
@@ -59,21 +59,21 @@ module _ (N : ℕ) (f : ℕ → ℕ) where
           tailed-before (tabulate N f) k (rw (tabulate-length N f) (ltb-true k N e)) ∙ tabulate-at N f k 0 (ltb-true k N e)
       go false e = tailed-after (tabulate N f) k (rw (tabulate-length N f) (ltb-false k N e))
 
--- input t is a scrambled bit below N, and a zero from there on
-pub input-at : (counter N : ℕ) (octets : List ℕ) (t : ℕ)
-    → getD (tailed (scrambled counter N octets)) t 0 ≡ choose (ltb t N) (scrambledBit counter octets t) 0
-unfolding scrambled
-input-at counter N octets = tailed-tabulate N (scrambledBit counter octets)
+-- input t is a bit with its mask below N, and a zero from there on
+pub input-at : (first counter N : ℕ) (octets : List ℕ) (t : ℕ)
+    → getD (tailed (scrambledFrom first counter N octets)) t 0 ≡ choose (ltb t N) (maskedBit first counter octets t) 0
+unfolding scrambledFrom
+input-at first counter N octets = tailed-tabulate N (maskedBit first counter octets)
 
-scrambled-bit : (counter : ℕ) (octets : List ℕ) (t : ℕ) → scrambledBit counter octets t < 2
-unfolding scrambledBit
-scrambled-bit counter octets t = omega arith
+masked-bit : (first counter : ℕ) (octets : List ℕ) (t : ℕ) → maskedBit first counter octets t < 2
+unfolding maskedBit
+masked-bit first counter octets t = omega arith
 
 -- octets scrambled are a train
-pub scrambled-train : (counter N : ℕ) (octets : List ℕ) → Train N (scrambled counter N octets)
-unfolding scrambled
-scrambled-train counter N octets = tabulate-train N (scrambledBit counter octets) (scrambled-bit counter octets)
+pub scrambled-train : (first counter N : ℕ) (octets : List ℕ) → Train N (scrambledFrom first counter N octets)
+unfolding scrambledFrom
+scrambled-train first counter N octets = tabulate-train N (maskedBit first counter octets) (masked-bit first counter octets)
 
 -- every input is a bit
-pub input-bits : (counter N : ℕ) (octets : List ℕ) → Bits (tailed (scrambled counter N octets))
-input-bits counter N octets = tailed-bits (scrambled-train counter N octets)
+pub input-bits : (first counter N : ℕ) (octets : List ℕ) → Bits (tailed (scrambledFrom first counter N octets))
+input-bits first counter N octets = tailed-bits (scrambled-train first counter N octets)

@@ -3,13 +3,15 @@
 mod octets;
 
 pub use octets::descramble;
+pub use octets::octets_counter;
+pub use octets::train_counter;
 ghost use mathlib.Core.Path.{_≡_};
 ghost use Prim.Native.Nat.{_+_, _*_, _/_, _%_, _<_, _≤_};
 ghost use lib.Dec.{ltb};
 ghost use lib.ListN.{length, set};
 ghost use Rattle.laws.specs.Lists.{choose, filled};
 ghost use Rattle.coder.specs.Scrambler.{bitOf, output, shifted};
-ghost use Rattle.coder.specs.Train.{codedBit};
+ghost use Rattle.coder.specs.Train.{codedBit, CodesOn};
 ghost use Rattle.coder.specs.Register.{entered, parity, maskX, maskY};
 
 // The polynomials as masks of the seven-bit register, whose newest bit is the highest.
@@ -39,7 +41,7 @@ fn output_of(s: u32) -> u32
     (s / 64 + s / 8) % 2
 }
 
-fn shifted_from(s: u32) -> u32
+pub fn shifted_from(s: u32) -> u32
     requires { ⌜ s < 128 ⌝ }
     ensures { λ r. ⌜ (r ≡ shifted s) × (r < 128) ⌝ }
 {
@@ -70,8 +72,8 @@ fn put_pair(coded: &mut [u8], t: usize, register: u32)
     coded[2 * t + 1] = parity_of(register, Y_TAPS);
 }
 
-// Input t of the encoder: a scrambled bit, and behind the train the tail's zeros.
-fn input_bit(octets: &[u8], n: usize, t: usize, s: u32) -> u32
+// Input t of the encoder: a bit with one output, and behind the train the tail's zeros.
+pub fn input_bit(octets: &[u8], n: usize, t: usize, s: u32) -> u32
     requires { ⌜ (t < n → t / 8 < length (now octets)) ⌝ }
     ensures { λ r. ⌜ (r ≡ choose (ltb t n) ((bitOf (now (octets .entry)) t + output s) % 2) 0) × (r < 2) ⌝ }
 {
@@ -83,19 +85,39 @@ fn input_bit(octets: &[u8], n: usize, t: usize, s: u32) -> u32
     }
 }
 
-// The coded bits of a train of n bits: n + 6 pairs at the front of `coded`.
-pub fn code(counter: u32, n: usize, octets: &[u8], coded: &mut [u8])
-    requires { ⌜ (counter ≤ 15) × (n ≤ 3456) × (n ≤ 8 * length (now octets)) × (2 * (n + 6) ≤ length (now coded)) ⌝ }
-    ensures { λ _. ⌜ now (coded .exit) ≡ filled (2 * (n + 6)) (codedBit counter n (now (octets .entry))) (now (coded .entry)) ⌝ }
+// Codes the inputs from `from` up to `end`, in the scrambler's state s and with the register as it is then; the register behind them.
+fn code_on(
+    from: usize,
+    end: usize,
+    s: u32,
+    register: u32,
+    n: usize,
+    octets: &[u8],
+    coded: &mut [u8],
+) -> u32
+    requires { ⌜ (from ≤ end) × (end ≤ n + 6) × (s < 128) × (register < 128) ⌝ }
+    requires { ⌜ (n ≤ 3456) × (n ≤ 8 * length (now octets)) × (2 * (n + 6) ≤ length (now coded)) ⌝ }
+    ensures { λ r. ⌜ (r < 128) × CodesOn n (now (octets .entry)) from end s register r (now (coded .entry)) (now (coded .exit)) ⌝ }
 {
-    let mut s = 112 + counter;
-    let mut register = 0u32;
-    let mut t = 0usize;
-    while t < n + 6 {
+    let mut s = s;
+    let mut register = register;
+    let mut t = from;
+    while t < end {
         let bit = input_bit(octets, n, t, s);
         s = shifted_from(s);
         register = register_after(register, bit);
         put_pair(coded, t, register);
         t += 1;
     }
+    register
+}
+
+// The coded bits of a train of n bits, scrambled from bit `first` on: n + 6 pairs at the front of `coded`. Before that bit the scrambler
+// is all zeros, which give zeros and stay.
+pub fn code(first: usize, counter: u32, n: usize, octets: &[u8], coded: &mut [u8])
+    requires { ⌜ (first ≤ n) × (counter ≤ 15) × (n ≤ 3456) × (n ≤ 8 * length (now octets)) × (2 * (n + 6) ≤ length (now coded)) ⌝ }
+    ensures { λ _. ⌜ now (coded .exit) ≡ filled (2 * (n + 6)) (codedBit first counter n (now (octets .entry))) (now (coded .entry)) ⌝ }
+{
+    let register = code_on(0, first, 0, 0, n, octets, coded);
+    code_on(first, n + 6, 112 + counter, register, n, octets, coded);
 }

@@ -1,9 +1,11 @@
 // The public calls under C names, for the static library libjuzambore.a: `rt staticlib juzambore`. juzambore.h declares them.
-// Each carries the promise of its call in `modem`. A slice is a pointer and a length, a list's two arrays are pointers to sixteen
-// numbers; lent buffers do not overlap.
+// Each carries the promise of its call in `modem`. A kind is a number, a slice is a pointer and a length, a list's two arrays are
+// pointers to sixteen numbers; lent buffers do not overlap.
+use modes::Kind;
 ghost use mathlib.Core.Path.{_≡_};
 ghost use Prim.Native.Nat.{_≤_};
 ghost use lib.Dec.{eqb};
+ghost use Rattle.modes.specs.Kinds.{kindOf};
 ghost use Rattle.modes.specs.Pdus.{pdusOf};
 ghost use Rattle.modem.specs.Encode.{Encode};
 ghost use Rattle.modem.specs.Ideal.{Ideal};
@@ -28,8 +30,16 @@ pub struct JuzamboreAnswer {
     pub confirmed: u32,
 }
 
+// 0 is data, any other number BCH.
+fn kind_of(number: u32) -> Kind
+    ensures { λ r. ⌜ r ≡ kindOf number ⌝ }
+{
+    if number == 0 { Kind::Data } else { Kind::Bch }
+}
+
 #[no_mangle]
 pub extern "C" fn juzambore_encode(
+    kind: u32,
     count: u32,
     modes: &[u32; 16],
     lengths: &[u32; 16],
@@ -38,9 +48,10 @@ pub extern "C" fn juzambore_encode(
     octets: &[u8],
     sent: &mut [u8],
 ) -> u32
-    ensures { λ r. ⌜ Encode (pdusOf count (now (modes .entry)) (now (lengths .entry))) counter a (now (octets .entry)) (now (sent .entry)) r (now (sent .exit)) ⌝ }
+    ensures { λ r. ⌜ Encode (kindOf kind) (pdusOf count (now (modes .entry)) (now (lengths .entry))) counter a (now (octets .entry)) (now (sent .entry)) r (now (sent .exit)) ⌝ }
 {
-    modem::encode(count, modes, lengths, counter, a, octets, sent)
+    let kind = kind_of(kind);
+    modem::encode(kind, count, modes, lengths, counter, a, octets, sent)
 }
 
 #[no_mangle]
@@ -91,6 +102,7 @@ fn flag(confirmed: bool) -> u32
 
 #[no_mangle]
 pub extern "C" fn juzambore_decode_soft(
+    kind: u32,
     count: u32,
     modes: &[u32; 16],
     lengths: &[u32; 16],
@@ -100,10 +112,11 @@ pub extern "C" fn juzambore_decode_soft(
     octets: &mut [u8],
     words: &mut [u64],
 ) -> JuzamboreAnswer
-    ensures { λ r. ⌜ DecodeSoft (pdusOf count (now (modes .entry)) (now (lengths .entry))) counter a (now (soft .entry)) (now (octets .entry)) (now (words .entry)) (r .refusal) (outcome (r .symbols) (r .n) (r .cost) (eqb (r .confirmed) 1) (now (octets .exit)) (now (words .exit))) ⌝ }
+    ensures { λ r. ⌜ DecodeSoft (kindOf kind) (pdusOf count (now (modes .entry)) (now (lengths .entry))) counter a (now (soft .entry)) (now (octets .entry)) (now (words .entry)) (r .refusal) (outcome (r .symbols) (r .n) (r .cost) (eqb (r .confirmed) 1) (now (octets .exit)) (now (words .exit))) ⌝ }
     ensures flag { λ r. ⌜ r .confirmed ≤ 1 ⌝ }
 {
-    let answer = modem::decode_soft(count, modes, lengths, counter, a, soft, octets, words);
+    let kind = kind_of(kind);
+    let answer = modem::decode_soft(kind, count, modes, lengths, counter, a, soft, octets, words);
     JuzamboreAnswer {
         refusal: answer.refusal,
         symbols: answer.symbols,
@@ -115,6 +128,7 @@ pub extern "C" fn juzambore_decode_soft(
 
 #[no_mangle]
 pub extern "C" fn juzambore_decode_readings(
+    kind: u32,
     count: u32,
     modes: &[u32; 16],
     lengths: &[u32; 16],
@@ -125,10 +139,22 @@ pub extern "C" fn juzambore_decode_readings(
     octets: &mut [u8],
     words: &mut [u64],
 ) -> JuzamboreAnswer
-    ensures { λ r. ⌜ DecodeReadings (pdusOf count (now (modes .entry)) (now (lengths .entry))) counter a (now (i .entry)) (now (q .entry)) (now (octets .entry)) (now (words .entry)) (r .refusal) (outcome (r .symbols) (r .n) (r .cost) (eqb (r .confirmed) 1) (now (octets .exit)) (now (words .exit))) ⌝ }
+    ensures { λ r. ⌜ DecodeReadings (kindOf kind) (pdusOf count (now (modes .entry)) (now (lengths .entry))) counter a (now (i .entry)) (now (q .entry)) (now (octets .entry)) (now (words .entry)) (r .refusal) (outcome (r .symbols) (r .n) (r .cost) (eqb (r .confirmed) 1) (now (octets .exit)) (now (words .exit))) ⌝ }
     ensures flag { λ r. ⌜ r .confirmed ≤ 1 ⌝ }
 {
-    let answer = modem::decode_readings(count, modes, lengths, counter, a, i, q, octets, words);
+    let kind = kind_of(kind);
+    let answer = modem::decode_readings(
+        kind,
+        count,
+        modes,
+        lengths,
+        counter,
+        a,
+        i,
+        q,
+        octets,
+        words,
+    );
     JuzamboreAnswer {
         refusal: answer.refusal,
         symbols: answer.symbols,

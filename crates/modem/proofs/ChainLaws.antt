@@ -12,16 +12,17 @@ use Rattle.laws.specs.Ladder.{_when_, ladder}
 use Rattle.laws.specs.Lists.{filled}
 use Rattle.laws.proofs.LadderLaws.{ladder-front, ladder-passed, given-goes-on, given-passed}
 use Rattle.laws.proofs.ListLaws.{tabulate-length, filled-take}
+use Rattle.modes.specs.declared.Kind.{Kind}
+use Rattle.modes.specs.Kinds.{heeded}
 use Rattle.modes.specs.Sizes.{octetsOf}
 use Rattle.modes.specs.Pdus.{Pdu, lengthOf, symbolsOf, carriersOf, sentOf}
-use Rattle.modes.specs.Refusals.{lengthOutside, listSized, listDescribed}
-use Rattle.modes.proofs.RefusalLaws.{described-by, sized-by, list-legal}
+use Rattle.modes.specs.Refusals.{lengthOutside, listSized, listDescribed, encodeDescribed, decodeDescribed}
+use Rattle.modes.proofs.RefusalLaws.{described-by, sized-by}
+use Rattle.modes.proofs.KindLaws.{heeded-described, encode-described, encode-legal, decode-passes}
 use Rattle.places.specs.Trains.{listed}
-use Rattle.coder.specs.Scrambler.{scrambled}
-use Rattle.coder.proofs.TrainLaws.{scrambled-train}
 use Rattle.points.specs.Levels.{allBits}
 use Rattle.trellis.specs.Wanted.{Returned, Confirmed}
-use Rattle.modem.specs.Lent.{lent}
+use Rattle.modem.specs.Entering.{entering}
 use Rattle.modem.specs.Sent.{sentBy}
 use Rattle.modem.specs.Encode.{sentBit, encodeRefusal, Encode}
 use Rattle.modem.specs.Ideal.{listI, listQ, idealRefusal, Ideal}
@@ -30,16 +31,21 @@ use Rattle.modem.specs.Costs.{roundedCost, differing}
 use Rattle.modem.specs.Decode.{Outcome, outcome, trainOf, DecodedList, readingsRefusal, DecodeReadings}
 use Rattle.modem.specs.Demands.{GivenBack}
 use Rattle.modem.proofs.LentLaws.{enough-room, lent-passed, all-done, done-passed, lent-passes}
+use Rattle.modem.proofs.EnteringLaws.{entering-train}
 use Rattle.modem.proofs.TrustLaws.{sent-low}
 use Rattle.modem.proofs.ReturnLaws.{tabulate-low, sentList, readI, readQ, ideal-returned, ideal-confirmed, ideal-cost}
 use Rattle.modem.proofs.Determined.{ideal-determined, decode-readings-determined}
 
 -- where a description is not refused, its list is not
-pub described-fits : (ps : List Pdu) (counter a : ℕ) → ladder (listDescribed ps counter a) ≡ 0 → ladder (listSized ps) ≡ 0
+described-fits : (ps : List Pdu) (counter a : ℕ) → ladder (listDescribed ps counter a) ≡ 0 → ladder (listSized ps) ≡ 0
 described-fits ps counter a zero =
     let (tests, p) = given-passed _ _ (sym (described-by ps counter a) ∙ zero) in
     let (lens, p) = given-passed _ _ (ladder-passed 1 _ _ p .1) in
     sized-by ps ∙ given-goes-on _ _ tests ∙ given-goes-on _ _ lens ∙ ladder-front ((3 when lengthOutside (lengthOf ps)) ∷ []) _ tt p
+
+pub decode-fits : (kind : Kind) (ps : List Pdu) (counter a : ℕ) → ladder (decodeDescribed kind ps counter a) ≡ 0 → ladder (listSized ps) ≡ 0
+decode-fits kind ps counter a zero =
+    described-fits ps (heeded kind counter) a (encode-described kind ps (heeded kind counter) a (heeded-described kind ps counter a ∙ zero))
 
 -- bits are bits
 all-bits : (l : List ℕ) → ((m : ℕ) → getD l m 0 < 2) → allBits l ≡ true
@@ -47,23 +53,23 @@ unfolding allBits
 all-bits [] low = refl
 all-bits (x ∷ xs) low = rw (lt-ltb x 2 (low 0)) (all-bits xs (λ m. low (suc m)))
 
-module _ (ps : List Pdu) (counter a : ℕ) (octets sent sent′ : List ℕ) (encoded : Encode ps counter a octets sent 0 sent′) where
+module _ (kind : Kind) (ps : List Pdu) (counter a : ℕ) (octets sent sent′ : List ℕ) (encoded : Encode kind ps counter a octets sent 0 sent′) where
   -- what an encoding that is done says of its description and its octets
-  described-zero : ladder (listDescribed ps counter a) ≡ 0
+  described-zero : ladder (encodeDescribed kind ps counter a) ≡ 0
   unfolding Encode encodeRefusal
-  described-zero = done-passed _ _ _ _ _ _ _ encoded .0
+  described-zero = done-passed _ _ _ _ _ _ _ _ encoded .0
 
   octets-count : length octets ≡ octetsOf (lengthOf ps)
   unfolding Encode encodeRefusal
-  octets-count = eqb-true _ _ (not-false _ (lent-passed _ _ _ (done-passed _ _ _ _ _ _ _ encoded .1) .0))
+  octets-count = eqb-true _ _ (not-false _ (lent-passed 11 _ _ _ (done-passed _ _ _ _ _ _ _ _ encoded .1) .0))
 
   -- the train that is sent
   abbrev w : List ℕ
-  w = scrambled counter (lengthOf ps) octets
+  w = entering kind counter (lengthOf ps) octets
 
   sent-front : take (sentOf ps) sent′ ≡ sentList ps a w
   unfolding Encode sentBit
-  sent-front = ap (take (sentOf ps)) (encoded .done refl) ∙ filled-take (sentOf ps) (sentBit ps counter a octets) sent
+  sent-front = ap (take (sentOf ps)) (encoded .done refl) ∙ filled-take (sentOf ps) (sentBit kind ps counter a octets) sent
 
   module _ (i q : List ℤ) (room-i : carriersOf ps ≤ length i) (room-q : carriersOf ps ≤ length q) where
     -- the ideal readings that are then wanted
@@ -73,8 +79,8 @@ module _ (ps : List Pdu) (counter a : ℕ) (octets sent sent′ : List ℕ) (enc
     unfolding Ideal idealRefusal
     ideal-wanted =
         let bits = all-bits (sentList ps a w) (tabulate-low (sentOf ps) (sentBy (listed ps a) w) (sent-low (listed ps a) w)) in
-        all-done _ _ _ _ _ _ (described-fits ps counter a described-zero)
-        (lent-passes _ _ _
+        all-done _ _ _ _ _ _ _ (described-fits ps counter a (encode-described kind ps counter a described-zero))
+        (lent-passes 9 _ _ _
         (simp (eq-eqb _ _ (tabulate-length (sentOf ps) (sentBy (listed ps a) w))))
         (simp (le-ltb _ _ room-i, le-ltb _ _ room-q))
         (ap not bits))
@@ -99,13 +105,13 @@ module _ (ps : List Pdu) (counter a : ℕ) (octets sent sent′ : List ℕ) (enc
     front : take (octetsOf (lengthOf ps)) (octets ++ drop (octetsOf (lengthOf ps)) octets₀) ≡ octets
     front = take-at octets (drop (octetsOf (lengthOf ps)) octets₀) (octetsOf (lengthOf ps)) octets-count
 
-    given-decoded : DecodedList ps counter a (softened ps (readI ps a w) (readQ ps a w)) octets₀ words₀ (given octets₀ words₀)
+    given-decoded : DecodedList kind ps counter a (softened ps (readI ps a w) (readQ ps a w)) octets₀ words₀ (given octets₀ words₀)
     unfolding given trainOf
     given-decoded =
         let N : ℕ = lengthOf ps in
-        let legal = list-legal ps counter a described-zero in
-        let train = scrambled-train counter N octets in
-        let is : trainOf counter N (octets ++ drop (octetsOf N) octets₀) ≡ w = ap (scrambled counter N) front in
+        let legal = encode-legal kind ps counter a described-zero in
+        let train = entering-train kind counter N octets in
+        let is : trainOf kind counter N (octets ++ drop (octetsOf N) octets₀) ≡ w = ap (entering kind counter N) front in
         let soft : List ℤ = softened ps (readI ps a w) (readQ ps a w) in
         record {
           chosen = record {
@@ -122,11 +128,11 @@ module _ (ps : List Pdu) (counter a : ℕ) (octets sent sent′ : List ℕ) (enc
         }
 
     given-wanted : octetsOf (lengthOf ps) ≤ length octets₀ → lengthOf ps + 6 ≤ length words₀
-        → DecodeReadings ps counter a (readI ps a w) (readQ ps a w) octets₀ words₀ 0 (given octets₀ words₀)
+        → DecodeReadings kind ps counter a (readI ps a w) (readQ ps a w) octets₀ words₀ 0 (given octets₀ words₀)
     unfolding DecodeReadings readingsRefusal
     given-wanted room-o room-w =
-        all-done _ _ _ _ _ _ described-zero
-        (lent-passes _ _ _
+        all-done _ _ _ _ _ _ _ (decode-passes kind ps counter a described-zero)
+        (lent-passes 9 _ _ _
         (simp (
           eq-eqb _ _ (tabulate-length (carriersOf ps) (listI ps (sentList ps a w))),
           eq-eqb _ _ (tabulate-length (carriersOf ps) (listQ ps (sentList ps a w))),
@@ -137,31 +143,31 @@ module _ (ps : List Pdu) (counter a : ℕ) (octets sent sent′ : List ℕ) (enc
 
     -- and `decode_readings` gives it
     pub chain-decoded : (i q : List ℤ) → i ≡ readI ps a w → q ≡ readQ ps a w → octetsOf (lengthOf ps) ≤ length octets₀ → lengthOf ps + 6 ≤ length words₀
-        → (r : ℕ) (o : Outcome) → DecodeReadings ps counter a i q octets₀ words₀ r o → GivenBack (lengthOf ps) octets r o
+        → (r : ℕ) (o : Outcome) → DecodeReadings kind ps counter a i q octets₀ words₀ r o → GivenBack (lengthOf ps) octets r o
     unfolding given
     chain-decoded i q on-i on-q room-o room-w r o h =
-        let (done, same) = decode-readings-determined ps counter a _ _ octets₀ words₀ r 0 o (given octets₀ words₀) (rw (on-i, on-q) at h) (given-wanted room-o room-w) in
+        let (done, same) = decode-readings-determined kind ps counter a _ _ octets₀ words₀ r 0 o (given octets₀ words₀) (rw (on-i, on-q) at h) (given-wanted room-o room-w) in
         rw same (record { done = done; back = front; no-cost = refl; sure = refl })
 
 -- what a call that is done says of the room that it was lent
 ideal-room : (ps : List Pdu) (sent : List ℕ) (i q i′ q′ : List ℤ) → Ideal ps sent i q 0 i′ q′ → (carriersOf ps ≤ length i) × (carriersOf ps ≤ length q)
 unfolding Ideal idealRefusal
-ideal-room ps sent i q i′ q′ h = enough-room _ _ _ _ (lent-passed _ _ _ (done-passed _ _ _ _ _ _ _ h .1) .1)
+ideal-room ps sent i q i′ q′ h = enough-room _ _ _ _ (lent-passed 8 _ _ _ (done-passed _ _ _ _ _ _ _ _ h .1) .1)
 
-readings-room : (ps : List Pdu) (counter a : ℕ) (i q : List ℤ) (octets words : List ℕ) (o : Outcome) → DecodeReadings ps counter a i q octets words 0 o
+readings-room : (kind : Kind) (ps : List Pdu) (counter a : ℕ) (i q : List ℤ) (octets words : List ℕ) (o : Outcome) → DecodeReadings kind ps counter a i q octets words 0 o
     → (octetsOf (lengthOf ps) ≤ length octets) × (lengthOf ps + 6 ≤ length words)
 unfolding DecodeReadings readingsRefusal
-readings-room ps counter a i q octets words o h = enough-room _ _ _ _ (lent-passed _ _ _ (done-passed _ _ _ _ _ _ _ h .1) .1)
+readings-room kind ps counter a i q octets words o h = enough-room _ _ _ _ (lent-passed 8 _ _ _ (done-passed _ _ _ _ _ _ _ _ h .1) .1)
 
 -- three calls that are done one after the other
-pub chain-done : (ps : List Pdu) (counter a : ℕ) (octets sent sent′ : List ℕ) (i q i′ q′ : List ℤ) (octets₀ words₀ : List ℕ) (o : Outcome)
+pub chain-done : (kind : Kind) (ps : List Pdu) (counter a : ℕ) (octets sent sent′ : List ℕ) (i q i′ q′ : List ℤ) (octets₀ words₀ : List ℕ) (o : Outcome)
     → ((k : ℕ) → getD octets k 0 < 256)
-    → Encode ps counter a octets sent 0 sent′
+    → Encode kind ps counter a octets sent 0 sent′
     → Ideal ps (take (sentOf ps) sent′) i q 0 i′ q′
-    → DecodeReadings ps counter a (take (carriersOf ps) i′) (take (carriersOf ps) q′) octets₀ words₀ 0 o
+    → DecodeReadings kind ps counter a (take (carriersOf ps) i′) (take (carriersOf ps) q′) octets₀ words₀ 0 o
     → GivenBack (lengthOf ps) octets 0 o
-chain-done ps counter a octets sent sent′ i q i′ q′ octets₀ words₀ o low encoded read decoded =
+chain-done kind ps counter a octets sent sent′ i q i′ q′ octets₀ words₀ o low encoded read decoded =
     let (room-i, room-q) = ideal-room ps _ i q i′ q′ read in
-    let (room-o, room-w) = readings-room ps counter a _ _ octets₀ words₀ o decoded in
-    let (_, on-i, on-q) = chain-ideal ps counter a octets sent sent′ encoded i q room-i room-q 0 i′ q′ read in
-    chain-decoded ps counter a octets sent sent′ encoded low octets₀ words₀ _ _ on-i on-q room-o room-w 0 o decoded
+    let (room-o, room-w) = readings-room kind ps counter a _ _ octets₀ words₀ o decoded in
+    let (_, on-i, on-q) = chain-ideal kind ps counter a octets sent sent′ encoded i q room-i room-q 0 i′ q′ read in
+    chain-decoded kind ps counter a octets sent sent′ encoded low octets₀ words₀ _ _ on-i on-q room-o room-w 0 o decoded

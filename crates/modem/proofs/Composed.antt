@@ -11,19 +11,20 @@ use lib.Seq.{take-all}
 use borrow.Author.Tests.{eq-eqb, le-ltb}
 use Rattle.laws.proofs.LadderLaws.{given-passed, given-goes-on}
 use Rattle.laws.proofs.ListLaws.{filled-take, filled-length}
+use Rattle.modes.specs.declared.Kind.{Kind}
 use Rattle.modes.specs.Pdus.{Pdu, carriersOf, sentOf}
 use Rattle.modem.specs.Lent.{readingsWrong}
 use Rattle.modem.specs.Soften.{listSoft, softened, softenRefusal, Soften}
 use Rattle.modem.specs.Decode.{Outcome, softRefusal, DecodeSoft, readingsRefusal, DecodeReadings}
 use Rattle.modem.proofs.LentLaws.{lent-passed, lent-passes}
 use Rattle.modem.proofs.SoftenedLaws.{softened-length, softened-soft}
-use Rattle.modem.proofs.ChainLaws.{described-fits}
+use Rattle.modem.proofs.ChainLaws.{decode-fits}
 
 module _ (ps : List Pdu) (i q soft : List ℤ) where
   -- readings that are softened are of the right counts
   right-of : softenRefusal ps i q soft ≡ 0 → readingsWrong (carriersOf ps) i q ≡ false
   unfolding softenRefusal
-  right-of e = lent-passed _ _ _ (given-passed _ _ e .1) .0
+  right-of e = lent-passed 8 _ _ _ (given-passed _ _ e .1) .0
 
   -- and a buffer of just their length then holds the soft bytes alone
   all-softened : (soft′ : List ℤ) → length soft ≡ sentOf ps → Soften ps i q soft 0 soft′ → soft′ ≡ softened ps i q
@@ -34,22 +35,22 @@ module _ (ps : List Pdu) (i q soft : List ℤ) where
       let long : length soft′ ≤ n = rw (is, filled-length n (listSoft ps i q) soft (omega (arith, exact))) (omega (arith, exact)) in
       sym (take-all n soft′ long) ∙ ap (take n) is ∙ filled-take n (listSoft ps i q) soft
 
-module _ (ps : List Pdu) (counter a : ℕ) (i q : List ℤ) (octets words : List ℕ) where
+module _ (kind : Kind) (ps : List Pdu) (counter a : ℕ) (i q : List ℤ) (octets words : List ℕ) where
   same-refusal : readingsWrong (carriersOf ps) i q ≡ false
-      → softRefusal ps counter a (softened ps i q) octets words ≡ readingsRefusal ps counter a i q octets words
+      → softRefusal kind ps counter a (softened ps i q) octets words ≡ readingsRefusal kind ps counter a i q octets words
   unfolding softRefusal readingsRefusal
   same-refusal right = rw (eq-eqb _ _ (softened-length ps i q), softened-soft ps i q, right)
 
   -- soft bytes made by `soften` in a buffer of their length, and decoded by `decode_soft`, refused or not
   pub readings-composed : (soft soft′ : List ℤ) (r : ℕ) (o : Outcome) → length soft ≡ sentOf ps
-      → Soften ps i q soft 0 soft′ → DecodeSoft ps counter a soft′ octets words r o → DecodeReadings ps counter a i q octets words r o
+      → Soften ps i q soft 0 soft′ → DecodeSoft kind ps counter a soft′ octets words r o → DecodeReadings kind ps counter a i q octets words r o
   unfolding DecodeSoft DecodeReadings Soften
   readings-composed soft soft′ r o exact made h =
       rw (← same-refusal (right-of ps i q soft (sym (made .answer)))) (rw (all-softened ps i q soft soft′ exact made) at h)
 
   -- where `decode_readings` is done, so is `soften`, given the room
-  pub readings-soften : (soft : List ℤ) → sentOf ps ≤ length soft → readingsRefusal ps counter a i q octets words ≡ 0 → softenRefusal ps i q soft ≡ 0
+  pub readings-soften : (soft : List ℤ) → sentOf ps ≤ length soft → readingsRefusal kind ps counter a i q octets words ≡ 0 → softenRefusal ps i q soft ≡ 0
   unfolding readingsRefusal softenRefusal
   readings-soften soft room e =
       let (zero, rest) = given-passed _ _ e in
-      given-goes-on _ _ (described-fits ps counter a zero) ∙ lent-passes _ _ _ (lent-passed _ _ _ rest .0) (le-ltb _ _ room) refl
+      given-goes-on _ _ (decode-fits kind ps counter a zero) ∙ lent-passes 9 _ _ _ (lent-passed 8 _ _ _ rest .0) (le-ltb _ _ room) refl

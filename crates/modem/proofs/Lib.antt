@@ -1,6 +1,7 @@
 pub mod LentLaws
 pub mod SizeLaws
 pub mod ToldLaws
+pub mod EnteringLaws
 pub mod PassedLaws
 pub mod SendLaws
 pub mod ReadLaws
@@ -12,7 +13,9 @@ pub mod TrustLaws
 pub mod ReturnLaws
 pub mod OutcomeLaws
 pub mod Determined
+pub mod HeededLaws
 pub mod ChainLaws
 pub mod Composed
 pub mod Demands
+pub mod Data
 pub mod One

@@ -1,6 +1,6 @@
--- A LIST OF ONE PDU IS DOCUMENT 01'S TRAIN: each definition that the calls cite is then the one of OneMode, and so is what they promise.
+-- A LIST OF ONE PDU OF DATA IS DOCUMENT 01'S TRAIN: each definition that the calls cite is then the one of OneMode, and so is what they promise.
 -- Assumes nothing.
-use mathlib.Core.Path.{_≡_, refl, sym, ap, ap₂}
+use mathlib.Core.Path.{_≡_, refl, sym, _∙_, ap, ap₂}
 use mathlib.Core.List.{List, [], _∷_, _++_}
 use Prim.Native.Nat.{ℕ, _<_}
 use native.Mathlib.Nat.{add-zero}
@@ -13,6 +13,7 @@ use Rattle.laws.specs.Lists.{choose}
 use Rattle.laws.proofs.LadderLaws.{ladder-part}
 use Rattle.laws.proofs.ListLaws.{tabulate-ext, filled-same}
 use Rattle.laws.proofs.SumLaws.{total-ext}
+use Rattle.modes.specs.declared.Kind.the-variants.{Data}
 use Rattle.modes.specs.Modes.{constellationOf}
 use Rattle.modes.specs.Sizes.{symbols, carriers, sentBits}
 use Rattle.modes.specs.Pdus.{Pdu, pduOf, one, sumOf, shareOf, lengthOf, symbolsOf, carriersOf, sentOf, pduCarriers, pduSent}
@@ -27,13 +28,15 @@ use Rattle.points.specs.Points.{idealI, idealQ}
 use Rattle.soft.specs.Soft.{rounded, bitCost}
 use Rattle.soft.specs.Carriers.{exactAt, softAt}
 use Rattle.trellis.specs.Wanted.{Returned, Confirmed}
+use Rattle.modem.specs.DataTrain as before
 use Rattle.modem.specs.OneMode as alone
 use Rattle.modem.specs.Sent.{sentBy, costBy, differingBy}
-use Rattle.modem.specs.Encode.{sentBit, encodeRefusal, Encode}
+use Rattle.modem.specs.Encode.{Encode}
 use Rattle.modem.specs.Ideal.{idealBy, listI, listQ, idealRefusal, Ideal}
 use Rattle.modem.specs.Soften.{exactBy, listExact, listSoft, softened, softenRefusal, Soften}
 use Rattle.modem.specs.Costs.{roundedCost, exactCost, differing}
-use Rattle.modem.specs.Decode.{Outcome, softRefusal, DecodeSoft, readingsRefusal, DecodeReadings}
+use Rattle.modem.specs.Decode.{Outcome, DecodeSoft, DecodeReadings}
+use Rattle.modem.proofs.Data.{data-encode, data-decode-soft, data-decode-readings}
 
 module _ (mode N : ℕ) where
   -- what a description is refused for as one rung, or test by test
@@ -143,25 +146,28 @@ module _ (mode N : ℕ) where
     one-confirmed soft w = rw (one-length, one-rounded-cost soft, one-differing)
 
     module _ (counter : ℕ) where
-      pub one-sent-bit : (octets : List ℕ) (q : ℕ) → q < sentBits mode N
-          → sentBit (one mode N) counter a octets q ≡ alone.sentBit mode counter N a octets q
-      unfolding sentBit alone.sentBit
+      one-sent-bit : (octets : List ℕ) (q : ℕ) → q < sentBits mode N
+          → before.sentBit (one mode N) counter a octets q ≡ alone.sentBit mode counter N a octets q
+      unfolding before.sentBit alone.sentBit
       one-sent-bit octets q h = rw one-length (one-by (scrambled counter N octets) q h)
 
       pub one-encode : (octets sent : List ℕ) (r : ℕ) (sent′ : List ℕ)
-          → Encode (one mode N) counter a octets sent r sent′ ≡ alone.Encode mode counter N a octets sent r sent′
-      unfolding Encode encodeRefusal alone.Encode
+          → Encode Data (one mode N) counter a octets sent r sent′ ≡ alone.Encode mode counter N a octets sent r sent′
+      unfolding before.Encode alone.Encode
       one-encode octets sent r sent′ =
-          rw (one-described mode counter N a, described-first counter a, one-length, one-sent, filled-same (sentBits mode N) _ _ sent (one-sent-bit octets))
+          data-encode (one mode N) counter a octets sent r sent′
+          ∙ rw (one-described mode counter N a, described-first counter a, one-length, one-sent, filled-same (sentBits mode N) _ _ sent (one-sent-bit octets))
 
       pub one-decode-soft : (soft : List ℤ) (octets words : List ℕ) (r : ℕ) (o : Outcome)
-          → DecodeSoft (one mode N) counter a soft octets words r o ≡ alone.DecodeSoft mode counter N a soft octets words r o
-      unfolding DecodeSoft softRefusal alone.DecodeSoft alone.Wanted
+          → DecodeSoft Data (one mode N) counter a soft octets words r o ≡ alone.DecodeSoft mode counter N a soft octets words r o
+      unfolding before.DecodeSoft before.Wanted alone.DecodeSoft alone.Wanted
       one-decode-soft soft octets words r o =
-          rw (one-described mode counter N a, described-first counter a, one-length, one-symbols, one-sent, one-rounded-cost soft, one-differing)
+          data-decode-soft (one mode N) counter a soft octets words r o
+          ∙ rw (one-described mode counter N a, described-first counter a, one-length, one-symbols, one-sent, one-rounded-cost soft, one-differing)
 
       pub one-decode-readings : (i q : List ℤ) (octets words : List ℕ) (r : ℕ) (o : Outcome)
-          → DecodeReadings (one mode N) counter a i q octets words r o ≡ alone.DecodeReadings mode counter N a i q octets words r o
-      unfolding DecodeReadings readingsRefusal alone.DecodeReadings alone.Wanted
+          → DecodeReadings Data (one mode N) counter a i q octets words r o ≡ alone.DecodeReadings mode counter N a i q octets words r o
+      unfolding before.DecodeReadings before.Wanted alone.DecodeReadings alone.Wanted
       one-decode-readings i q octets words r o =
-          rw (one-described mode counter N a, described-first counter a, one-length, one-symbols, one-carriers, one-sent, one-softened i q, one-rounded-cost, one-differing)
+          data-decode-readings (one mode N) counter a i q octets words r o
+          ∙ rw (one-described mode counter N a, described-first counter a, one-length, one-symbols, one-carriers, one-sent, one-softened i q, one-rounded-cost, one-differing)

@@ -3,43 +3,59 @@
 use mathlib.Core.Path.{_≡_, sym, _∙_, ap, subst}
 use mathlib.Core.Bool.{Bool}
 use mathlib.Core.List.{List}
-use Prim.Native.Nat.{ℕ, _/_, _%_}
-use lib.ListN.{take, drop}
+use Prim.Native.Nat.{ℕ, _/_, _%_, _≤_, _<_}
+use native.Mathlib.Omega.{arith}
+use lib.ListN.{getD, take, drop}
+use lib.Seq.{getD-take}
 use Rattle.laws.specs.Lists.{tabulate, filled}
 use Rattle.laws.proofs.ListLaws.{tabulate-length, tabulate-at, filled-take, filled-drop}
+use Rattle.modes.specs.declared.Kind.{Kind}
+use Rattle.modes.specs.Kinds.{firstScrambled}
 use Rattle.modes.specs.Sizes.{octetsOf}
-use Rattle.coder.specs.Scrambler.{scrambled, octetAt}
-use Rattle.coder.proofs.OctetLaws.{octet-low, scrambled-back}
+use Rattle.coder.specs.Scrambler.{octetAt}
+use Rattle.coder.specs.Train.{Train}
+use Rattle.coder.proofs.OctetLaws.{octet-low}
 use Rattle.trellis.specs.Wanted.{Returned, Confirmed}
 use Rattle.trellis.specs.Heard.{trainCost, differing}
 use Rattle.trellis.proofs.WantedLaws.{returned-same-cost, confirmed-same}
 use Rattle.search.specs.Bytes.{costOf, heardOf}
 use Rattle.search.specs.Promises.{Searched, Marked}
 use Rattle.unique.specs.Sameness.{Octets}
+use Rattle.modem.specs.Entering.{counterIn, entering}
 use Rattle.modem.specs.Decode.{trainOf, Chosen}
+use Rattle.modem.proofs.EnteringLaws.{found-back}
 
-module _ (counter n : ℕ) (octets octets′ w : List ℕ) (written : octets′ ≡ filled (n / 8) (octetAt counter w) octets) where
-  front : take (octetsOf n) octets′ ≡ tabulate (n / 8) (octetAt counter w)
+-- a train's first bits are bits
+pub first-low : (n : ℕ) (w : List ℕ) → 4 ≤ n → Train n (take n w) → (t : ℕ) → t < 4 → getD w t 0 < 2
+first-low n w long train t h = rw (getD-take n w t 0 (omega arith)) at (train .low t (omega arith))
+
+module _ (first own n : ℕ) (octets octets′ w : List ℕ) (written : octets′ ≡ filled (n / 8) (octetAt first own w) octets) where
+  front : take (octetsOf n) octets′ ≡ tabulate (n / 8) (octetAt first own w)
   unfolding octetsOf
-  front = ap (take (n / 8)) written ∙ filled-take (n / 8) (octetAt counter w) octets
+  front = ap (take (n / 8)) written ∙ filled-take (n / 8) (octetAt first own w) octets
 
   behind : drop (octetsOf n) octets′ ≡ drop (octetsOf n) octets
   unfolding octetsOf
-  behind = ap (drop (n / 8)) written ∙ filled-drop (n / 8) (octetAt counter w) octets
+  behind = ap (drop (n / 8)) written ∙ filled-drop (n / 8) (octetAt first own w) octets
 
   low : Octets (octetsOf n) (take (octetsOf n) octets′)
   unfolding octetsOf
   low = rw front (record {
     count = tabulate-length (n / 8) _;
-    low = λ j h. rw (tabulate-at (n / 8) (octetAt counter w) j 0 h) (octet-low counter w j);
+    low = λ j h. rw (tabulate-at (n / 8) (octetAt first own w) j 0 h) (octet-low first own w j);
   })
 
-  pub pick-chosen : (heard before words words′ : List ℕ) (cost : ℕ) (confirmed : Bool) → n % 8 ≡ 0
+  pub pick-chosen : (kind : Kind) (counter : ℕ) (heard before words words′ : List ℕ) (cost : ℕ) (confirmed : Bool)
+      → n % 8 ≡ 0 → 4 ≤ n → first ≡ firstScrambled kind → own ≡ counterIn kind counter (λ t. getD w t 0)
       → Searched n heard before w words words′ cost → Marked n heard (take n w) confirmed
-      → Chosen counter n (trainCost (costOf heard) n) (differing (heardOf heard) n) octets words cost confirmed octets′ words′
+      → Chosen (trainOf kind counter n) n (trainCost (costOf heard) n) (differing (heardOf heard) n) octets words cost confirmed octets′ words′
   unfolding trainOf
-  pick-chosen heard before words words′ cost confirmed whole s m =
-      let e : trainOf counter n octets′ ≡ take n w = ap (scrambled counter n) front ∙ scrambled-back counter n w whole (s .returned .train) in
+  pick-chosen kind counter heard before words words′ cost confirmed whole long at-first is s m =
+      let train = s .returned .train in
+      let e : trainOf kind counter n octets′ ≡ take n w =
+      ap (entering kind counter n) (front ∙ ap (λ (f : ℕ). tabulate (n / 8) (octetAt f own w)) at-first)
+      ∙ found-back kind counter own n w whole long train (first-low n w long train) is
+      in
       record {
         returned = subst (Returned n (trainCost (costOf heard) n)) (sym e) (s .returned);
         costs = s .costs ∙ ap (trainCost (costOf heard) n) (sym e);
@@ -51,13 +67,13 @@ module _ (counter n : ℕ) (octets octets′ w : List ℕ) (written : octets′ 
       }
 
 -- what is chosen depends on the costs and the counts alone
-pub chosen-same : (counter N : ℕ) (cost cost′ : List ℕ → ℕ) (count count′ : List ℕ → List ℕ → ℕ) (octets words octets′ words′ : List ℕ)
+pub chosen-same : (stands : List ℕ → List ℕ) (N : ℕ) (cost cost′ : List ℕ → ℕ) (count count′ : List ℕ → List ℕ → ℕ) (octets words octets′ words′ : List ℕ)
     (c : ℕ) (confirmed : Bool)
     → ((v : List ℕ) → cost v ≡ cost′ v) → ((w v : List ℕ) → count w v ≡ count′ w v)
-    → Chosen counter N cost count octets words c confirmed octets′ words′
-    → Chosen counter N cost′ count′ octets words c confirmed octets′ words′
-chosen-same counter N cost cost′ count count′ octets words octets′ words′ c confirmed same-cost same-count h =
-    let w : List ℕ = trainOf counter N octets′ in
+    → Chosen stands N cost count octets words c confirmed octets′ words′
+    → Chosen stands N cost′ count′ octets words c confirmed octets′ words′
+chosen-same stands N cost cost′ count count′ octets words octets′ words′ c confirmed same-cost same-count h =
+    let w : List ℕ = stands octets′ in
     let train = h .returned .train in
     record {
       returned = returned-same-cost (λ v _. same-cost v) (h .returned);

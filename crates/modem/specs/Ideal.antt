@@ -38,7 +38,7 @@ unfoldable pub idealRefusal : List Pdu → (sent : List ℕ) → (i q : List ℤ
 idealRefusal ps sent i q =
     ladder
     (given (ladder (listSized ps))
-    ∷ lent (not (eqb (length sent) (sentOf ps))) (ltb (length i) (carriersOf ps) || ltb (length q) (carriersOf ps)) (not (allBits sent)))
+    ∷ lent 9 (not (eqb (length sent) (sentOf ps))) (ltb (length i) (carriersOf ps) || ltb (length q) (carriersOf ps)) (not (allBits sent)))
 
 -- the answer r, and the buffers: on success 48 x symbols readings of I and of Q and the rest as it was, on a refusal all as it was
 unfoldable pub Ideal : List Pdu → (sent : List ℕ) → (i q : List ℤ) → (r : ℕ) → (i′ q′ : List ℤ) → Type 0

@@ -1,4 +1,5 @@
 pub mod Lent
+pub mod Entering
 pub mod Sent
 pub mod Encode
 pub mod Ideal
@@ -7,5 +8,6 @@ pub mod Soften
 pub mod Costs
 pub mod Told
 pub mod Decode
+pub mod DataTrain
 pub mod OneMode
 pub mod Demands

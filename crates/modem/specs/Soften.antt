@@ -41,7 +41,7 @@ softened ps i q = tabulate (sentOf ps) (listSoft ps i q)
 -- refusals 11, 1, 3, 4 and 5, then 7 for the readings of I and of Q and 8 for the room for soft bytes
 unfoldable pub softenRefusal : List Pdu → (i q soft : List ℤ) → ℕ
 softenRefusal ps i q soft =
-    ladder (given (ladder (listSized ps)) ∷ lent (readingsWrong (carriersOf ps) i q) (ltb (length soft) (sentOf ps)) false)
+    ladder (given (ladder (listSized ps)) ∷ lent 9 (readingsWrong (carriersOf ps) i q) (ltb (length soft) (sentOf ps)) false)
 
 -- the answer r, and the buffer: on success the n soft bytes and the rest as it was, on a refusal all as it was
 unfoldable pub Soften : List Pdu → (i q soft : List ℤ) → (r : ℕ) → (soft′ : List ℤ) → Type 0

@@ -1,19 +1,20 @@
 // THE PUBLIC CALLS. Each tests what it is given, answers bad input with its refusal number, in the customer's order, and then leaves
-// every lent buffer as it was. None has a `requires`; the promise of each is one definition of specs/. A train is described by the
-// count of its PDUs and their modes and lengths, in arrays of which the entries past the count are not read; by its frame counter; and
-// by a, where P1 begins. The far end is in decode.rt and readings.rt.
+// every lent buffer as it was. None has a `requires`; the promise of each is one definition of specs/. A train is described by its
+// kind; by the count of its PDUs and their modes and lengths, in arrays of which the entries past the count are not read; by its frame
+// counter; and by a, where P1 begins. The far end is in decode.rt and readings.rt.
 mod decode;
 mod readings;
 
 pub use decode::Answer;
 pub use decode::decode_soft;
 use decode::lent_refusal;
+pub use modes::Kind;
 use modes::Train;
 use points::Point;
 pub use readings::decode_readings;
 pub use readings::soften;
 ghost use mathlib.Core.Path.{_≡_};
-ghost use mathlib.Core.Bool.{_||_};
+ghost use mathlib.Core.Bool.{false, _||_};
 ghost use Prim.Native.Nat.{_≤_};
 ghost use lib.Dec.{ltb};
 ghost use lib.ListN.{length, replicate};
@@ -21,6 +22,7 @@ ghost use Rattle.laws.specs.Lists.{filled};
 ghost use Rattle.modes.specs.Sizes.{octetsOf};
 ghost use Rattle.modes.specs.Pdus.{pdusOf, lengthOf, carriersOf, sentOf};
 ghost use Rattle.modes.specs.Description.{LegalList, FitList, pdusIn};
+ghost use Rattle.modem.specs.Entering.{counterOther};
 ghost use Rattle.modem.specs.Encode.{sentBit, Encode};
 ghost use Rattle.modem.specs.Ideal.{listI, listQ, Ideal};
 ghost use Rattle.modem.specs.Point.{plusZero, MapsTo};
@@ -41,17 +43,30 @@ fn coded_room() -> [u8; 6924]
 // The sent bits of a train of n information bits, when all has been tested.
 fn send(train: Train, n: usize, octets: &[u8], sent: &mut [u8])
     requires { ⌜ LegalList (pdusIn train) (train .counter) (train .a) × (n ≡ lengthOf (pdusIn train)) ⌝ }
-    requires { ⌜ (length (now octets) ≡ octetsOf n) × (sentOf (pdusIn train) ≤ length (now sent)) ⌝ }
-    ensures { λ _. ⌜ now (sent .exit) ≡ filled (sentOf (pdusIn train)) (sentBit (pdusIn train) (train .counter) (train .a) (now (octets .entry))) (now (sent .entry)) ⌝ }
+    requires { ⌜ (length (now octets) ≡ octetsOf n) × (sentOf (pdusIn train) ≤ length (now sent)) × (counterOther (train .kind) (train .counter) (now octets) ≡ false) ⌝ }
+    ensures { λ _. ⌜ now (sent .exit) ≡ filled (sentOf (pdusIn train)) (sentBit (train .kind) (pdusIn train) (train .counter) (train .a) (now (octets .entry))) (now (sent .entry)) ⌝ }
 {
+    let kind = train.kind;
     let counter = train.counter;
+    let first = modes::first_scrambled(kind);
     let mut coded = coded_room();
-    coder::code(counter, n, octets, &mut coded);
+    coder::code(first, counter, n, octets, &mut coded);
     places::send_train(train, &coded, sent);
+}
+
+// Whether the first four bits of a BCH are not the given counter.
+fn counter_other(kind: Kind, counter: u32, octets: &[u8]) -> bool
+    ensures { λ r. ⌜ r ≡ counterOther kind counter (now (octets .entry)) ⌝ }
+{
+    match kind {
+        Kind::Data => false,
+        Kind::Bch => coder::octets_counter(octets) != counter,
+    }
 }
 
 // The sent bits of a train, one to a byte, in the order after the interleaver.
 pub fn encode(
+    kind: Kind,
     count: u32,
     modes: &[u32; 16],
     lengths: &[u32; 16],
@@ -60,16 +75,17 @@ pub fn encode(
     octets: &[u8],
     sent: &mut [u8],
 ) -> u32
-    ensures { λ r. ⌜ Encode (pdusOf count (now (modes .entry)) (now (lengths .entry))) counter a (now (octets .entry)) (now (sent .entry)) r (now (sent .exit)) ⌝ }
+    ensures { λ r. ⌜ Encode kind (pdusOf count (now (modes .entry)) (now (lengths .entry))) counter a (now (octets .entry)) (now (sent .entry)) r (now (sent .exit)) ⌝ }
 {
-    let refusal = modes::refusal(count, modes, lengths, counter, a);
+    let refusal = modes::refusal(kind, count, modes, lengths, counter, a);
     if refusal != 0 {
         return refusal;
     }
-    let train = modes::train_of(count, modes, lengths, counter, a);
+    let train = modes::train_of(kind, count, modes, lengths, counter, a);
     let counts = modes::counts_of(train);
     let n = counts.n;
-    let late = lent_refusal(octets.len() != n / 8, sent.len() < counts.sent, false);
+    let other = counter_other(kind, counter, octets);
+    let late = lent_refusal(12, octets.len() != n / 8, sent.len() < counts.sent, other);
     if late != 0 {
         return late;
     }
@@ -130,11 +146,11 @@ pub fn ideal(
     if refusal != 0 {
         return refusal;
     }
-    let train = modes::train_of(count, modes, lengths, 0, 0);
+    let train = modes::train_of(Kind::Data, count, modes, lengths, 0, 0);
     let counts = modes::counts_of(train);
     let short = axes_short(48 * counts.symbols, i.len(), q.len());
     let bits = points::bits_ok(sent);
-    let late = lent_refusal(sent.len() != counts.sent, short, !bits);
+    let late = lent_refusal(9, sent.len() != counts.sent, short, !bits);
     if late != 0 {
         return late;
     }

@@ -6,6 +6,7 @@ use crate::decode::find;
 use crate::decode::lent_refusal;
 use crate::decode::refused;
 use crate::decode::room_short;
+use modes::Kind;
 use modes::Train;
 ghost use mathlib.Core.Path.{_≡_};
 ghost use mathlib.Core.Bool.{not, _||_};
@@ -18,7 +19,7 @@ ghost use Rattle.modes.specs.Pdus.{pdusOf, lengthOf, carriersOf, sentOf};
 ghost use Rattle.modes.specs.Description.{FitList, LegalList, pdusIn};
 ghost use Rattle.modem.specs.Costs.{roundedCost, differing};
 ghost use Rattle.modem.specs.Soften.{listSoft, softened, Soften};
-ghost use Rattle.modem.specs.Decode.{outcome, Chosen, DecodeReadings};
+ghost use Rattle.modem.specs.Decode.{outcome, trainOf, Chosen, DecodeReadings};
 
 // Room for the soft bytes of the longest train.
 fn soft_room() -> [i8; 6912]
@@ -74,10 +75,10 @@ pub fn soften(
     if refusal != 0 {
         return refusal;
     }
-    let train = modes::train_of(count, modes, lengths, 0, 0);
+    let train = modes::train_of(Kind::Data, count, modes, lengths, 0, 0);
     let counts = modes::counts_of(train);
     let wrong = readings_wrong(48 * counts.symbols, i.len(), q.len());
-    let late = lent_refusal(wrong, soft.len() < counts.sent, false);
+    let late = lent_refusal(9, wrong, soft.len() < counts.sent, false);
     if late != 0 {
         return late;
     }
@@ -99,7 +100,7 @@ fn find_by_readings(
     requires { ⌜ LegalList (pdusIn train) (train .counter) (train .a) × (n ≡ lengthOf (pdusIn train)) × (sent ≡ sentOf (pdusIn train)) ⌝ }
     requires { ⌜ (length (now i) ≡ carriersOf (pdusIn train)) × (length (now q) ≡ carriersOf (pdusIn train)) ⌝ }
     requires { ⌜ (octetsOf n ≤ length (now octets)) × (n + 6 ≤ length (now words)) ⌝ }
-    ensures { λ r. ⌜ Chosen (train .counter) n (roundedCost (pdusIn train) (train .a) (softened (pdusIn train) (now (i .entry)) (now (q .entry)))) (differing (pdusIn train) (train .a)) (now (octets .entry)) (now (words .entry)) (r .cost) (r .confirmed) (now (octets .exit)) (now (words .exit)) ⌝ }
+    ensures { λ r. ⌜ Chosen (trainOf (train .kind) (train .counter) n) n (roundedCost (pdusIn train) (train .a) (softened (pdusIn train) (now (i .entry)) (now (q .entry)))) (differing (pdusIn train) (train .a)) (now (octets .entry)) (now (words .entry)) (r .cost) (r .confirmed) (now (octets .exit)) (now (words .exit)) ⌝ }
 {
     let mut soft = soft_room();
     soften_train(train, i, q, &mut soft);
@@ -108,6 +109,7 @@ fn find_by_readings(
 
 // The same as `decode_soft` from 48 x symbols readings of I and as many of Q: their soft bytes are made and decoded.
 pub fn decode_readings(
+    kind: Kind,
     count: u32,
     modes: &[u32; 16],
     lengths: &[u32; 16],
@@ -118,18 +120,19 @@ pub fn decode_readings(
     octets: &mut [u8],
     words: &mut [u64],
 ) -> Answer
-    ensures { λ r. ⌜ DecodeReadings (pdusOf count (now (modes .entry)) (now (lengths .entry))) counter a (now (i .entry)) (now (q .entry)) (now (octets .entry)) (now (words .entry)) (r .refusal) (outcome (r .symbols) (r .n) (r .cost) (r .confirmed) (now (octets .exit)) (now (words .exit))) ⌝ }
+    ensures { λ r. ⌜ DecodeReadings kind (pdusOf count (now (modes .entry)) (now (lengths .entry))) counter a (now (i .entry)) (now (q .entry)) (now (octets .entry)) (now (words .entry)) (r .refusal) (outcome (r .symbols) (r .n) (r .cost) (r .confirmed) (now (octets .exit)) (now (words .exit))) ⌝ }
 {
-    let refusal = modes::refusal(count, modes, lengths, counter, a);
+    let counter = modes::heeded_counter(kind, counter);
+    let refusal = modes::refusal(kind, count, modes, lengths, counter, a);
     if refusal != 0 {
         return refused(refusal);
     }
-    let train = modes::train_of(count, modes, lengths, counter, a);
+    let train = modes::train_of(kind, count, modes, lengths, counter, a);
     let counts = modes::counts_of(train);
     let n = counts.n;
     let wrong = readings_wrong(48 * counts.symbols, i.len(), q.len());
     let short = room_short(n, octets.len(), words.len());
-    let late = lent_refusal(wrong, short, false);
+    let late = lent_refusal(9, wrong, short, false);
     if late != 0 {
         return refused(late);
     }

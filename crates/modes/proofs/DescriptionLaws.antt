@@ -9,6 +9,7 @@ use lib.Dec.{ltb}
 use lib.ListN.{length, getD, set, take, length-set}
 use borrow.Author.Tests.{ltb-true, ltb-false}
 use Rattle.laws.proofs.ListLaws.{tabulate-length, tabulate-at, tabulate-ext, after-set}
+use Rattle.modes.specs.declared.Kind.{Kind}
 use Rattle.modes.specs.declared.Pdu as source
 use Rattle.modes.specs.declared.Train.{Train}
 use Rattle.modes.specs.Modes.{number, numberOf}
@@ -102,12 +103,12 @@ module _ (modes lengths : List ℕ) where
           subst (Holds (getD modes j 0) (getD lengths j 0)) same (rw here new)
 
   -- a description that was made of a fit list holds it
-  pub put-all : (count counter a : ℕ) (pdus : List source.Pdu) → FitList (pdusOf count modes lengths) → Put modes lengths count pdus
-      → Describes (pdusOf count modes lengths) counter a (record { pdus = pdus; count = count; counter = counter; a = a })
+  pub put-all : (kind : Kind) (count counter a : ℕ) (pdus : List source.Pdu) → FitList (pdusOf count modes lengths) → Put modes lengths count pdus
+      → Describes kind (pdusOf count modes lengths) counter a (record { kind = kind; pdus = pdus; count = count; counter = counter; a = a })
   unfolding pdusIn pdusOf
-  put-all count counter a pdus fit so = record { list-is = same; counter-is = refl; a-is = refl }
+  put-all kind count counter a pdus fit so = record { kind-is = refl; list-is = same; counter-is = refl; a-is = refl }
     where
-      same : pdusIn (record { pdus = pdus; count = count; counter = counter; a = a }) ≡ pdusOf count modes lengths
+      same : pdusIn (record { kind = kind; pdus = pdus; count = count; counter = counter; a = a }) ≡ pdusOf count modes lengths
       same = tabulate-ext count _ _ (λ k h.
           let one = so .holds k h in
           let ok = rw (pdusOf-at count modes lengths k (pduOf 0 0) h) at (fit-at (pdusOf count modes lengths) (fit .each) k (pduOf 0 0) (omega (arith, pdusOf-length count modes lengths))) in

@@ -12,13 +12,13 @@ use lib.ListN.{length, getD, drop, drop-of-length-le}
 use lib.Seq.{drop-cons}
 use borrow.Author.Tests.{le-ltb, ltb-false, eqb-true, not-false}
 use Rattle.laws.specs.Ladder.{Rung, _when_, ladder, given}
-use Rattle.laws.proofs.LadderLaws.{numbered, ladder-passed, ladder-stops, ladder-goes-on, ladder-idle, ladder-under, ladder-part, given-stops, given-goes-on, given-passed}
+use Rattle.laws.proofs.LadderLaws.{numbered, ladder-passed, ladder-stops, ladder-goes-on, ladder-idle, ladder-under, ladder-part, given-passed}
 use Rattle.modes.specs.Modes.{info}
 use Rattle.modes.specs.Pdus.{Pdu, one, sumOf, lengthOf}
 use Rattle.modes.specs.Refusals.{outside, modeUnknown, counterAbove, lengthOutside, notOctets, notSymbols, placeAbove, lengths, sized, described, modesTests, listTests, lengthsTests, listSized, listDescribed}
 use Rattle.modes.specs.Description.{Fit, EachFit, FitList, LegalList}
 
-neither : (a b : Bool) → (a || b) ≡ false → (a ≡ false) × (b ≡ false)
+pub neither : (a b : Bool) → (a || b) ≡ false → (a ≡ false) × (b ≡ false)
 neither true b e = let z : _≡_ {A = ℕ} 0 1 = cc in absurd (omega arith)
 neither false b e = (refl, e)
 
@@ -59,12 +59,12 @@ fit-of k N m l =
     }
 
 -- 1, PDU by PDU: the rungs are numbered, and those before k have passed
-numbered-modes : (ps : List Pdu) → T (numbered (modesTests ps))
+pub numbered-modes : (ps : List Pdu) → T (numbered (modesTests ps))
 unfolding modesTests
 numbered-modes [] = tt
 numbered-modes (p ∷ ps) = numbered-modes ps
 
-numbered-lengths : (ps : List Pdu) → T (numbered (lengthsTests ps))
+pub numbered-lengths : (ps : List Pdu) → T (numbered (lengthsTests ps))
 unfolding lengthsTests lengths
 numbered-lengths [] = tt
 numbered-lengths (p ∷ ps) = numbered-lengths ps
@@ -115,6 +115,10 @@ list-passed ps passes =
     let (count, modes) = ladder-passed 10 _ _ passes in
     (within 1 16 (length ps) count .1, modes)
 
+pub list-some : (ps : List Pdu) → ladder (listTests ps) ≡ 0 → 1 ≤ length ps
+unfolding listTests
+list-some ps passes = within 1 16 (length ps) (ladder-passed 10 _ _ passes .0) .0
+
 -- modes that are not refused are known
 pub known-at : (ps : List Pdu) → ladder (modesTests ps) ≡ 0 → (k : ℕ) (d : Pdu) → k < length ps → (1 ≤ getD ps k d .mode) × (getD ps k d .mode ≤ 7)
 unfolding modesTests
@@ -131,7 +135,25 @@ each-fit (p ∷ ps) modes lens =
     let (passes, others) = lengths-passed (info (p .mode)) (p .length) (lengthsTests ps) lens in
     (fit-of (p .mode) (p .length) known passes, each-fit ps rest others)
 
--- the whole ladder, with what is tested PDU by PDU as one rung each
+-- the whole ladder, with what is tested PDU by PDU as one rung each, whatever follows
+pub described-then : (ps : List Pdu) (counter : ℕ) (last : List Rung)
+    → ladder (listTests ps ++ ((2 when counterAbove counter) ∷ (lengthsTests ps ++ last)))
+    ≡ ladder (given (ladder (listTests ps)) ∷ (2 when counterAbove counter) ∷ given (ladder (lengthsTests ps)) ∷ last)
+unfolding listTests
+described-then ps counter last =
+    let two : Rung = 2 when counterAbove counter in
+    ladder-part (listTests ps) (two ∷ (lengthsTests ps ++ last)) (numbered-modes ps)
+    ∙ ladder-under (given (ladder (listTests ps))) (two ∷ (lengthsTests ps ++ last)) (two ∷ given (ladder (lengthsTests ps)) ∷ last)
+    (ladder-under two (lengthsTests ps ++ last) (given (ladder (lengthsTests ps)) ∷ last) (ladder-part (lengthsTests ps) last (numbered-lengths ps)))
+
+pub sized-then : (ps : List Pdu) (last : List Rung)
+    → ladder (listTests ps ++ (lengthsTests ps ++ last)) ≡ ladder (given (ladder (listTests ps)) ∷ given (ladder (lengthsTests ps)) ∷ last)
+unfolding listTests
+sized-then ps last =
+    ladder-part (listTests ps) (lengthsTests ps ++ last) (numbered-modes ps)
+    ∙ ladder-under (given (ladder (listTests ps))) (lengthsTests ps ++ last) (given (ladder (lengthsTests ps)) ∷ last)
+    (ladder-part (lengthsTests ps) last (numbered-lengths ps))
+
 pub described-by : (ps : List Pdu) (counter a : ℕ)
     → ladder (listDescribed ps counter a)
     ≡ ladder
@@ -141,22 +163,13 @@ pub described-by : (ps : List Pdu) (counter a : ℕ)
     ∷ (3 when lengthOutside (lengthOf ps))
     ∷ (6 when placeAbove (lengthOf ps) a)
     ∷ [])
-unfolding listDescribed listTests
-described-by ps counter a =
-    let last : List Rung = (3 when lengthOutside (lengthOf ps)) ∷ (6 when placeAbove (lengthOf ps) a) ∷ [] in
-    let two : Rung = 2 when counterAbove counter in
-    ladder-part (listTests ps) (two ∷ (lengthsTests ps ++ last)) (numbered-modes ps)
-    ∙ ladder-under (given (ladder (listTests ps))) (two ∷ (lengthsTests ps ++ last)) (two ∷ given (ladder (lengthsTests ps)) ∷ last)
-    (ladder-under two (lengthsTests ps ++ last) (given (ladder (lengthsTests ps)) ∷ last) (ladder-part (lengthsTests ps) last (numbered-lengths ps)))
+unfolding listDescribed
+described-by ps counter a = described-then ps counter _
 
 pub sized-by : (ps : List Pdu)
     → ladder (listSized ps) ≡ ladder (given (ladder (listTests ps)) ∷ given (ladder (lengthsTests ps)) ∷ (3 when lengthOutside (lengthOf ps)) ∷ [])
-unfolding listSized listTests
-sized-by ps =
-    let last : List Rung = (3 when lengthOutside (lengthOf ps)) ∷ [] in
-    ladder-part (listTests ps) (lengthsTests ps ++ last) (numbered-modes ps)
-    ∙ ladder-under (given (ladder (listTests ps))) (lengthsTests ps ++ last) (given (ladder (lengthsTests ps)) ∷ last)
-    (ladder-part (lengthsTests ps) last (numbered-lengths ps))
+unfolding listSized
+sized-by ps = sized-then ps _
 
 -- what a list that passes is
 fit-list : (ps : List Pdu) → ladder (listTests ps) ≡ 0 → ladder (lengthsTests ps) ≡ 0 → lengthOutside (lengthOf ps) ≡ false → FitList ps
@@ -184,20 +197,6 @@ list-legal ps counter a h =
       to-15 = ltb-false 15 counter known;
       inside = omega (arith, ltb-false (lengthOf ps - 72) a (ladder-passed 5 _ _ p .0));
     }
-
--- a refusal of the list is the answer, and where there is none the rest decides
-pub described-list : (ps : List Pdu) (counter a r : ℕ) → r ≡ ladder (listTests ps) → (r ≡ 0 → ⊥) → r ≡ ladder (listDescribed ps counter a)
-described-list ps counter a r e h = e ∙ sym (described-by ps counter a ∙ given-stops _ _ (λ z. h (e ∙ z)))
-
-pub described-rest : (ps : List Pdu) (counter a : ℕ) → ladder (listTests ps) ≡ 0
-    → ladder
-    ((2 when counterAbove counter)
-    ∷ given (ladder (lengthsTests ps))
-    ∷ (3 when lengthOutside (lengthOf ps))
-    ∷ (6 when placeAbove (lengthOf ps) a)
-    ∷ [])
-    ≡ ladder (listDescribed ps counter a)
-described-rest ps counter a tests = sym (described-by ps counter a ∙ given-goes-on _ _ tests)
 
 -- with 0 for counter and a, their tests refuse nothing
 pub described-sized : (ps : List Pdu) → ladder (listDescribed ps 0 0) ≡ ladder (listSized ps)

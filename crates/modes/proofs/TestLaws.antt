@@ -9,9 +9,9 @@ use borrow.Author.Tests.{lt-ltb, le-ltb}
 use Rattle.laws.specs.Ladder.{ladder}
 use Rattle.modes.specs.Modes.{info}
 use Rattle.modes.specs.Pdus.{Pdu, pduOf, pdusOf, lengthOf}
-use Rattle.modes.specs.Refusals.{lengths, modesTests, lengthsTests, listTests}
+use Rattle.modes.specs.Refusals.{lengths, modesTests, lengthsTests, listTests, firstMode}
 use Rattle.modes.proofs.PduLaws.{pdusOf-length, pdusOf-at, sum-take, sum-all}
-use Rattle.modes.proofs.RefusalLaws.{modes-on, modes-stop, modes-end, lengths-on, lengths-stop, lengths-end, list-inside, list-passed, known-at}
+use Rattle.modes.proofs.RefusalLaws.{modes-on, modes-stop, modes-end, lengths-on, lengths-stop, lengths-end, list-inside, list-some, list-passed, known-at}
 
 module _ (count : ℕ) (modes lens : List ℕ) where
   abbrev ps : List Pdu
@@ -39,6 +39,9 @@ module _ (count : ℕ) (modes lens : List ℕ) where
 
   pub list-modes : ladder (listTests ps) ≡ 0 → ladder (modesTests ps) ≡ 0
   list-modes passes = list-passed ps passes .1
+
+  pub list-first : ladder (listTests ps) ≡ 0 → firstMode ps ≡ getD modes 0 0
+  list-first passes = ap (λ (p : Pdu). p .mode) (pdusOf-at count modes lens 0 none (omega (arith, list-some ps passes, pdusOf-length count modes lens)))
 
   pub list-empty : count < 1 → ladder (listTests ps) ≡ 11
   unfolding listTests ladder

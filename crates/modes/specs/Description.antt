@@ -6,7 +6,7 @@
 --   held        a PDU of the source by its mode's number
 --   Holds       a PDU of the source holds that mode and length
 --   pdusIn      the list that the struct holds
---   Describes   the struct holds that list, counter and a
+--   Describes   the struct holds that kind, list, counter and a
 -- Assumes nothing.
 use Prim.Native.Nat.{ℕ, _+_, _%_, _≤_}
 use mathlib.Core.Path.{_≡_}
@@ -15,6 +15,7 @@ use lib.ListN.{length, getD}
 use Rattle.laws.specs.Lists.{tabulate}
 use Rattle.modes.specs.declared.Constellation.the-variants.{Bpsk}
 use Rattle.modes.specs.declared.Rate.the-variants.{Half}
+use Rattle.modes.specs.declared.Kind.{Kind}
 use Rattle.modes.specs.declared.Pdu as source
 use Rattle.modes.specs.declared.Train.{Train}
 use Rattle.modes.specs.Modes.{constellationOf, rateOf, info, number}
@@ -65,8 +66,9 @@ noPdu = record { mode = record { constellation = Bpsk; rate = Half }; n = 0 }
 unfoldable pub pdusIn : Train → List Pdu
 pdusIn t = tabulate (t .count) (λ k. held (getD (t .pdus) k noPdu))
 
--- the struct holds that list, counter and a
-pub record Describes (ps : List Pdu) (counter a : ℕ) (t : Train) : Type 0 where
+-- the struct holds that kind, list, counter and a
+pub record Describes (kind : Kind) (ps : List Pdu) (counter a : ℕ) (t : Train) : Type 0 where
+  pub kind-is : t .kind ≡ kind
   pub list-is : pdusIn t ≡ ps
   pub counter-is : t .counter ≡ counter
   pub a-is : t .a ≡ a

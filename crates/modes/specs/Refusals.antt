@@ -1,5 +1,5 @@
--- Refusals 1 to 6, in the words and the order of document 01's table, and 11 with these of a list of PDUs. A call that has no counter or no a
--- skips its test.
+-- Refusals 1 to 6, in the words and the order of document 01's table, 11 with these of a list of PDUs, and 12 of a BCH. A call that has no
+-- counter or no a skips its test.
 --   lengths     3, 4, 5: what a length is tested for
 --   sized       1, 3, 4, 5: what document 01's mode and length are tested for
 --   described   1 to 6: what document 01's description is tested for
@@ -8,15 +8,21 @@
 --   lengthsTests    3, 4 and 5, PDU by PDU
 --   listSized       11, 1, 3, 4, 5, and 3 on the sum: what a list is tested for
 --   listDescribed   11, 1, 2, 3, 4, 5, and 3 and 6 on the sum: what a list, a counter and a are tested for
+--   bchTest         12: what a BCH's list and a are tested for
+--   encodeDescribed    what encoding tests the description of a train of some kind for
+--   decodeDescribed    and decoding
 -- Assumes nothing.
 use Prim.Native.Nat.{ℕ, _-_, _%_}
 use mathlib.Core.Bool.{Bool, not, _||_}
 use mathlib.Core.List.{List, [], _∷_, _++_}
 use lib.Dec.{ltb, eqb}
-use lib.ListN.{length}
+use lib.ListN.{length, getD}
 use Rattle.laws.specs.Ladder.{Rung, _when_}
+use Rattle.modes.specs.declared.Kind.{Kind}
+use Rattle.modes.specs.declared.Kind.the-variants.{Data, Bch}
 use Rattle.modes.specs.Modes.{info}
-use Rattle.modes.specs.Pdus.{Pdu, lengthOf}
+use Rattle.modes.specs.Pdus.{Pdu, pduOf, lengthOf}
+use Rattle.modes.specs.Kinds.{otherThanBch}
 
 -- a number below the first of two or above the second
 abbrev pub outside : ℕ → ℕ → ℕ → Bool
@@ -89,3 +95,21 @@ listDescribed ps counter a =
     listTests ps
     ++ ((2 when counterAbove counter)
     ∷ (lengthsTests ps ++ (3 when lengthOutside (lengthOf ps)) ∷ (6 when placeAbove (lengthOf ps) a) ∷ []))
+
+-- the mode of the first PDU
+abbrev pub firstMode : List Pdu → ℕ
+firstMode ps = getD ps 0 (pduOf 0 0) .mode
+
+-- 12 for a BCH description with another list, N, mode or a
+abbrev pub bchTest : List Pdu → (a : ℕ) → List Rung
+bchTest ps a = (12 when otherThanBch (length ps) (lengthOf ps) (firstMode ps) a) ∷ []
+
+-- what encoding tests a description for: of a BCH also 12, after 6
+unfoldable pub encodeDescribed : Kind → List Pdu → (counter a : ℕ) → List Rung
+encodeDescribed Data ps counter a = listDescribed ps counter a
+encodeDescribed Bch ps counter a = listDescribed ps counter a ++ bchTest ps a
+
+-- what decoding tests it for: of a BCH the caller's counter is not read, and 2 not tested
+unfoldable pub decodeDescribed : Kind → List Pdu → (counter a : ℕ) → List Rung
+decodeDescribed Data ps counter a = listDescribed ps counter a
+decodeDescribed Bch ps counter a = listSized ps ++ ((6 when placeAbove (lengthOf ps) a) ∷ bchTest ps a)

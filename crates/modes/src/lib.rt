@@ -1,10 +1,13 @@
-// The modes of document 01 (000, table 1), the description of a train as a list of PDUs, its sizes (list.rt), and (refusals.rt) the
-// refusals 11 and 1 to 6. The numbers of a call are tested here, in the customer's order; what has passed is a Train, which holds the
-// PDUs with their modes. Lengths of slices, and what stands in them, are tested by the calls.
+// The modes of document 01 (000, table 1), the kinds of train (kinds.rt), the description of a train as a list of PDUs, its sizes
+// (list.rt), and (refusals.rt) the refusals 11, 1 to 6 and 12. The numbers of a call are tested here, in the customer's order; what has
+// passed is a Train, which holds the PDUs with their modes. Lengths of slices, and what stands in them, are tested by the calls.
+mod kinds;
 mod list;
 mod order;
 mod refusals;
 
+pub use kinds::first_scrambled;
+pub use kinds::heeded_counter;
 pub use list::counts_of;
 pub use list::train_of;
 pub use refusals::refusal;
@@ -28,6 +31,12 @@ pub enum Rate {
     ThreeQuarters,
 }
 
+// A train of data, or the broadcast channel: one PDU of 120 bits in mode 1, of which the first four are the frame counter.
+pub enum Kind {
+    Data,
+    Bch,
+}
+
 pub struct Mode {
     pub constellation: Constellation,
     pub rate: Rate,
@@ -40,6 +49,7 @@ pub struct Pdu {
 
 // What has to be known of a train besides its octets. Only the first `count` PDUs are meant.
 pub struct Train {
+    pub kind: Kind,
     pub pdus: [Pdu; 16],
     pub count: usize,
     pub counter: u32,

@@ -1,5 +1,6 @@
 // The description of a train: its PDUs one after the other, each with its mode and length, and what is counted over all of them.
 use crate::Counts;
+use crate::Kind;
 use crate::Pdu;
 use crate::Train;
 use crate::mode_of;
@@ -28,9 +29,16 @@ fn pdu_room() -> [Pdu; 16]
 }
 
 // The description of numbers that were not refused.
-pub fn train_of(count: u32, modes: &[u32; 16], lengths: &[u32; 16], counter: u32, a: u32) -> Train
+pub fn train_of(
+    kind: Kind,
+    count: u32,
+    modes: &[u32; 16],
+    lengths: &[u32; 16],
+    counter: u32,
+    a: u32,
+) -> Train
     requires { ⌜ FitList (pdusOf count (now modes) (now lengths)) ⌝ }
-    ensures { λ r. ⌜ Describes (pdusOf count (now (modes .entry)) (now (lengths .entry))) counter a r ⌝ }
+    ensures { λ r. ⌜ Describes kind (pdusOf count (now (modes .entry)) (now (lengths .entry))) counter a r ⌝ }
 {
     let count = count as usize;
     let mut pdus = pdu_room();
@@ -40,6 +48,7 @@ pub fn train_of(count: u32, modes: &[u32; 16], lengths: &[u32; 16], counter: u32
         k += 1;
     }
     Train {
+        kind,
         pdus,
         count,
         counter,

@@ -1,5 +1,7 @@
-// What a description is tested for before anything else: refusal 11, and then 1 to 6, in the customer's order.
+// What a description is tested for before anything else: refusal 11, then 1 to 6, and then 12, in the customer's order.
+use crate::Kind;
 use crate::info_per_symbol;
+use crate::kinds::other_than;
 use crate::mode_of;
 use crate::order::first_refusal;
 ghost use mathlib.Core.Path.{_≡_};
@@ -8,7 +10,7 @@ ghost use Prim.Native.Nat.{ℕ, _<_, _≤_};
 ghost use Rattle.laws.specs.Ladder.{ladder};
 ghost use Rattle.modes.specs.Modes.{info};
 ghost use Rattle.modes.specs.Pdus.{pdusOf, lengthOf};
-ghost use Rattle.modes.specs.Refusals.{lengthOutside, placeAbove, lengths, modesTests, lengthsTests, listTests, listSized, listDescribed};
+ghost use Rattle.modes.specs.Refusals.{lengthOutside, placeAbove, lengths, modesTests, lengthsTests, listTests, listSized, encodeDescribed};
 
 // Table 1's last column.
 fn info_of(mode: u32) -> u32
@@ -119,9 +121,16 @@ fn place_above(sum: usize, a: u32) -> bool
     sum - 72 < a as usize
 }
 
-// What a list of PDUs, a counter and a are tested for.
-pub fn refusal(count: u32, modes: &[u32; 16], lengths: &[u32; 16], counter: u32, a: u32) -> u32
-    ensures { λ r. ⌜ r ≡ ladder (listDescribed (pdusOf count (now (modes .entry)) (now (lengths .entry))) counter a) ⌝ }
+// What a kind, a list of PDUs, a counter and a are tested for.
+pub fn refusal(
+    kind: Kind,
+    count: u32,
+    modes: &[u32; 16],
+    lengths: &[u32; 16],
+    counter: u32,
+    a: u32,
+) -> u32
+    ensures { λ r. ⌜ r ≡ ladder (encodeDescribed kind (pdusOf count (now (modes .entry)) (now (lengths .entry))) counter a) ⌝ }
 {
     let list = list_refusal(count, modes);
     if list != 0 {
@@ -131,12 +140,13 @@ pub fn refusal(count: u32, modes: &[u32; 16], lengths: &[u32; 16], counter: u32,
     let sum = total_length(count as usize, lengths);
     let outside = sum_outside(sum);
     let above = place_above(sum, a);
-    first_refusal(15 < counter, each, outside, above)
+    let other = other_than(kind, count, sum, modes[0], a);
+    first_refusal(15 < counter, each, outside, above, other)
 }
 
-// The same in a call that has no counter and no a. With 0 for these, their tests refuse nothing.
+// The same in a call that has no kind, no counter and no a. With data and 0 for these, their tests refuse nothing.
 pub fn sized_refusal(count: u32, modes: &[u32; 16], lengths: &[u32; 16]) -> u32
     ensures { λ r. ⌜ r ≡ ladder (listSized (pdusOf count (now (modes .entry)) (now (lengths .entry)))) ⌝ }
 {
-    refusal(count, modes, lengths, 0, 0)
+    refusal(Kind::Data, count, modes, lengths, 0, 0)
 }

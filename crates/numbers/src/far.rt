@@ -37,10 +37,12 @@ fn soften(text: &[u8], f: Field) -> Field {
 }
 
 fn show_decode_soft(d: Description, soft: &[i8], octets: &mut [u8], words: &mut [u64]) {
+    let kind = d.kind;
     let pdus = d.pdus;
     let modes = pdus.modes;
     let lengths = pdus.lengths;
     let answer = modem::decode_soft(
+        kind,
         pdus.count,
         &modes,
         &lengths,
@@ -85,10 +87,12 @@ fn show_decode_readings(
     octets: &mut [u8],
     words: &mut [u64],
 ) {
+    let kind = d.kind;
     let pdus = d.pdus;
     let modes = pdus.modes;
     let lengths = pdus.lengths;
     let answer = modem::decode_readings(
+        kind,
         pdus.count,
         &modes,
         &lengths,

@@ -1,22 +1,26 @@
-// Runs the public calls of `modem` on what standard input asks for and prints what they answer, a line for each.
+// Runs the public calls of `modem`, and the steps of `coder` before the encoder, on what standard input asks for and prints
+// what they answer, a line for each.
 //
-//     encode COUNT MODES LENGTHS COUNTER A OCTETS ROOM   refusal, sent bits
-//     ideal COUNT MODES LENGTHS SENT ROOM-I ROOM-Q       refusal, i, readings, q, readings
-//     mapped MODE GROUP                                  refusal, the bits of the two f32 parts in hexadecimal
-//     soften COUNT MODES LENGTHS I Q ROOM                refusal, soft bytes
-//     decode_soft COUNT MODES LENGTHS COUNTER A SOFT ROOM-OCTETS ROOM-WORDS
-//     decode_readings COUNT MODES LENGTHS COUNTER A I Q ROOM-OCTETS ROOM-WORDS
-//                                                        refusal, symbols, n, cost, mark (C D -), octets in hexadecimal,
-//                                                        how many words at the front are zero, and where those end that
-//                                                        are then as they were
+//     encode KIND COUNT MODES LENGTHS COUNTER A OCTETS ROOM   refusal, sent bits
+//     inputs KIND COUNTER OCTETS MANY                         the first MANY inputs of the encoder
+//     ideal COUNT MODES LENGTHS SENT ROOM-I ROOM-Q            refusal, i, readings, q, readings
+//     mapped MODE GROUP                                       refusal, the bits of the two f32 parts in hexadecimal
+//     soften COUNT MODES LENGTHS I Q ROOM                     refusal, soft bytes
+//     decode_soft KIND COUNT MODES LENGTHS COUNTER A SOFT ROOM-OCTETS ROOM-WORDS
+//     decode_readings KIND COUNT MODES LENGTHS COUNTER A I Q ROOM-OCTETS ROOM-WORDS
+//                                                             refusal, symbols, n, cost, mark (C D -), octets in
+//                                                             hexadecimal, how many words at the front are zero, and
+//                                                             where those end that are then as they were
 //
-// MODES and LENGTHS are decimal numbers with commas and no blanks between them, at most sixteen; an entry that is not written
-// is lent as 0. OCTETS, SENT and SOFT are bytes in hexadecimal, I and Q readings of four digits, `-` for none; signed numbers
-// in two's complement. ROOM is how many elements are lent for the answer; all of them are printed, 7 where the call wrote
-// nothing, or 100 for a soft byte. The run ends at the first line that is none of these. host/reference.py makes the input and,
-// from the documents, the output that is expected.
+// KIND is `data` or `bch`. MODES and LENGTHS are decimal numbers with commas and no blanks between them, at most sixteen; an
+// entry that is not written is lent as 0. OCTETS, SENT and SOFT are bytes in hexadecimal, I and Q readings of four digits, `-`
+// for none; signed numbers in two's complement. The octets of `inputs` are all of a train, and its COUNTER is 0 to 15. ROOM is
+// how many elements are lent for the answer; all of them are printed, 7 where the call wrote nothing, or 100 for a soft byte.
+// The run ends at the first line that is none of these. host/reference.py makes the input and, from the documents, the output
+// that is expected.
 mod bytes;
 mod far;
+mod inputs;
 mod shown;
 mod signed;
 mod words;
@@ -32,10 +36,20 @@ ghost use mathlib.Core.Path.{_≡_};
 ghost use lib.ListN.{length};
 
 fn show_encode(d: Description, octets: &[u8], sent: &mut [u8]) {
+    let kind = d.kind;
     let pdus = d.pdus;
     let modes = pdus.modes;
     let lengths = pdus.lengths;
-    let refusal = modem::encode(pdus.count, &modes, &lengths, d.counter, d.a, octets, sent);
+    let refusal = modem::encode(
+        kind,
+        pdus.count,
+        &modes,
+        &lengths,
+        d.counter,
+        d.a,
+        octets,
+        sent,
+    );
     io::print_decimal(STDOUT_FILENO, refusal as u64);
     shown::bits(sent);
 }
@@ -108,6 +122,9 @@ fn command(text: &[u8], at: usize) -> Field {
     };
     if check::same(name, b"encode") {
         return encode(text, f);
+    }
+    if check::same(name, b"inputs") {
+        return inputs::inputs(text, f);
     }
     if check::same(name, b"ideal") {
         return ideal(text, f);

@@ -22,12 +22,17 @@ fn spell(bytes: &mut [u8]) {
     }
 }
 
-// The bytes of `sent`, a digit each. They are spelled out in place.
+// The bytes, a digit each. They are spelled out in place.
+pub(crate) fn digits(bytes: &mut [u8]) {
+    spell(bytes);
+    io::write_all(STDOUT_FILENO, bytes);
+}
+
+// The sent bits.
 pub(crate) fn bits(sent: &mut [u8]) {
     if sent.len() > 0 {
         io::write_all(STDOUT_FILENO, b" ");
-        spell(sent);
-        io::write_all(STDOUT_FILENO, sent);
+        digits(sent);
     }
 }
 

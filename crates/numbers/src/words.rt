@@ -1,5 +1,6 @@
 // The words of the input, which blanks and line ends part from each other, and the numbers that they write: one or, with
 // commas between them, up to sixteen.
+use modes::Kind;
 ghost use Prim.Native.Nat.{_<_, _≤_};
 
 // One more than the largest number that a word may write.
@@ -22,6 +23,12 @@ struct List {
     last: Field,
 }
 
+// The kind of train that a word names, and its field.
+pub(crate) struct Named {
+    pub(crate) kind: Kind,
+    pub(crate) last: Field,
+}
+
 // A train's PDUs as the calls take them, and the last of their fields.
 pub(crate) struct Pdus {
     pub(crate) count: u32,
@@ -32,6 +39,7 @@ pub(crate) struct Pdus {
 
 // A train's description, and the last of its fields.
 pub(crate) struct Description {
+    pub(crate) kind: Kind,
     pub(crate) pdus: Pdus,
     pub(crate) counter: u32,
     pub(crate) a: u32,
@@ -176,6 +184,32 @@ pub(crate) fn room(text: &[u8], f: Field) -> Field
     size
 }
 
+// The kind in the word after the field `f`.
+pub(crate) fn kind_of(text: &[u8], f: Field) -> Named {
+    let name = word(text, f.at);
+    let last = Field {
+        value: 0,
+        at: after(text, f.at),
+        good: f.good,
+    };
+    if check::same(name, b"data") {
+        return Named {
+            kind: Kind::Data,
+            last,
+        };
+    }
+    if check::same(name, b"bch") {
+        return Named {
+            kind: Kind::Bch,
+            last,
+        };
+    }
+    Named {
+        kind: Kind::Data,
+        last: failed(),
+    }
+}
+
 // The PDUs in the three words after the field `f`: how many, their modes and their lengths.
 pub(crate) fn pdus_of(text: &[u8], f: Field) -> Pdus {
     let count = number(text, f);
@@ -192,12 +226,15 @@ pub(crate) fn pdus_of(text: &[u8], f: Field) -> Pdus {
     }
 }
 
-// The description in the five words after the field `f`.
+// The description in the six words after the field `f`.
 pub(crate) fn described(text: &[u8], f: Field) -> Description {
-    let pdus = pdus_of(text, f);
+    let named = kind_of(text, f);
+    let kind = named.kind;
+    let pdus = pdus_of(text, named.last);
     let counter = number(text, pdus.last);
     let a = number(text, counter);
     Description {
+        kind,
         pdus,
         counter: counter.value as u32,
         a: a.value as u32,

@@ -12,11 +12,12 @@ use lib.ListN.{length, getD, take}
 use borrow.Author.Tests.{le-ltb, eq-eqb}
 use Rattle.laws.specs.Ladder.{ladder}
 use Rattle.laws.proofs.LadderLaws.{given-goes-on}
+use Rattle.modes.specs.declared.Kind.the-variants.{Data}
 use Rattle.modes.specs.declared.Mode.{Mode}
 use Rattle.modes.specs.Modes.{constellationOf, rateOf, number, numberOf}
 use Rattle.modes.specs.Sizes.{symbols, carriers, sentBits, octetsOf}
 use Rattle.modes.specs.Pdus.{one, lengthOf, carriersOf, sentOf}
-use Rattle.modes.specs.Refusals.{described, listDescribed}
+use Rattle.modes.specs.Refusals.{described, listDescribed, encodeDescribed}
 use Rattle.modes.specs.Description.{Fit, EachFit, LegalList}
 use Rattle.modes.proofs.ModeLaws.{number-back}
 use Rattle.modes.proofs.RefusalLaws.{one-described, list-legal}
@@ -54,13 +55,13 @@ module _ (mode counter N a : ℕ) (passed : ladder (described mode counter N a) 
   few-carriers =
       omega (arith, one-carriers mode N, carriers-symbols (one mode N), symbols-of-within (one mode N) (legal .fit .each), one-length mode N, small)
 
-  encoded-done : (octets sent₀ sent : List ℕ) (r : ℕ) → length octets ≡ octetsOf N → length sent₀ ≡ 864 → Encode (one mode N) counter a octets sent₀ r sent
+  encoded-done : (octets sent₀ sent : List ℕ) (r : ℕ) → length octets ≡ octetsOf N → length sent₀ ≡ 864 → Encode Data (one mode N) counter a octets sent₀ r sent
       → r ≡ 0
-  unfolding Encode encodeRefusal
+  unfolding Encode encodeRefusal encodeDescribed
   encoded-done octets sent₀ sent r whole room p =
       p .answer
       ∙ given-goes-on _ _ zero
-      ∙ lent-passes _ _ _ (ap not (eq-eqb (length octets) _ (whole ∙ ap octetsOf (sym (one-length mode N)))))
+      ∙ lent-passes 12 _ _ _ (ap not (eq-eqb (length octets) _ (whole ∙ ap octetsOf (sym (one-length mode N)))))
       (le-ltb (length sent₀) (sentOf (one mode N)) (omega (arith, one-sent mode N, few-sent, room))) refl
 
   -- the Mode that holds the mode
@@ -83,20 +84,20 @@ module _ (mode counter N a : ℕ) (passed : ladder (described mode counter N a) 
       → ((k : ℕ) → getD octets k 0 < 256) → length octets ≡ octetsOf N
       → length sent₀ ≡ 864 → length i₀ ≡ 864 → length q₀ ≡ 864 → length octets₀ ≡ 54 → length words₀ ≡ 438
       → bits ≡ sentBits mode N → all ≡ carriers mode N
-      → Encode (one mode N) counter a octets sent₀ r₁ sent → Ideal (one mode N) (take (bits - 0) sent) i₀ q₀ r₂ i q
-      → DecodeReadings (one mode N) counter a (take (all - 0) i) (take (all - 0) q) octets₀ words₀ r₃ (outcome s n cost confirmed octets′ words′)
+      → Encode Data (one mode N) counter a octets sent₀ r₁ sent → Ideal (one mode N) (take (bits - 0) sent) i₀ q₀ r₂ i q
+      → DecodeReadings Data (one mode N) counter a (take (all - 0) i) (take (all - 0) q) octets₀ words₀ r₃ (outcome s n cost confirmed octets′ words′)
       → (r₃ ≡ 0) × Run mode counter N a octets (line s n cost confirmed)
   unfolding octetsOf
   run-done octets sent₀ sent i₀ q₀ i q octets₀ words₀ octets′ words′ bits all r₁ r₂ r₃ s n cost confirmed low whole hs hi hq ho hw eb ea p₁ p₂ p₃ =
-      let encoded : Encode (one mode N) counter a octets sent₀ 0 sent = rw (encoded-done octets sent₀ sent r₁ whole hs p₁) at p₁ in
+      let encoded : Encode Data (one mode N) counter a octets sent₀ 0 sent = rw (encoded-done octets sent₀ sent r₁ whole hs p₁) at p₁ in
       let taken : Ideal (one mode N) (take (sentBits mode N) sent) i₀ q₀ r₂ i q = rw (front _ bits sent eb) at p₂ in
-      let decoded : DecodeReadings (one mode N) counter a (take (carriers mode N) i) (take (carriers mode N) q) octets₀ words₀ r₃ (outcome s n cost confirmed octets′ words′) =
+      let decoded : DecodeReadings Data (one mode N) counter a (take (carriers mode N) i) (take (carriers mode N) q) octets₀ words₀ r₃ (outcome s n cost confirmed octets′ words′) =
       rw (front _ all i ea, front _ all q ea) at p₃
       in
       let N-is : lengthOf (one mode N) ≡ N = one-length mode N in
-      let (z₂, back) = demand-2-given-back (one mode N) counter a octets sent₀ sent i₀ q₀ i q octets₀ words₀ r₂ r₃ (outcome s n cost confirmed octets′ words′) low encoded
+      let (z₂, back) = demand-2-given-back Data (one mode N) counter counter a octets sent₀ sent i₀ q₀ i q octets₀ words₀ r₂ r₃ (outcome s n cost confirmed octets′ words′) low encoded
       (omega (arith, few-carriers, one-carriers mode N)) (omega (arith, few-carriers, one-carriers mode N))
-      (rw (one-sent mode N) taken) (omega (arith, N-is)) (omega (arith, N-is)) (rw (one-carriers mode N) decoded)
+      (rw (one-sent mode N) taken) (omega (arith, N-is)) (omega (arith, N-is)) refl (rw (one-carriers mode N) decoded)
       in (
         back .done,
         record {
@@ -120,14 +121,14 @@ module _ (mode counter N a : ℕ) (passed : ladder (described mode counter N a) 
 pub run-back : (mode counter N a : ℕ) (octets : List ℕ) (l : Line) → ((k : ℕ) → getD octets k 0 < 256) → Run mode counter N a octets l
     → (l .cost ≡ 0) × (l .confirmed ≡ true)
 run-back mode counter N a octets l low run =
-    let encoded : Encode (one mode N) counter a octets (run .sent₀) 0 (run .sent) = rw (one-encode mode N a counter octets (run .sent₀) 0 (run .sent)) (run .encoded) in
+    let encoded : Encode Data (one mode N) counter a octets (run .sent₀) 0 (run .sent) = rw (one-encode mode N a counter octets (run .sent₀) 0 (run .sent)) (run .encoded) in
     let taken : Ideal (one mode N) (take (sentOf (one mode N)) (run .sent)) (run .i₀) (run .q₀) 0 (run .i) (run .q) =
     rw (one-sent mode N, one-ideal mode N (take (sentBits mode N) (run .sent)) (run .i₀) (run .q₀) 0 (run .i) (run .q)) (run .taken)
     in
-    let decoded : DecodeReadings (one mode N) counter a (take (carriersOf (one mode N)) (run .i)) (take (carriersOf (one mode N)) (run .q)) (run .octets₀) (run .words₀) 0
+    let decoded : DecodeReadings Data (one mode N) counter a (take (carriersOf (one mode N)) (run .i)) (take (carriersOf (one mode N)) (run .q)) (run .octets₀) (run .words₀) 0
     (outcome (l .symbols) (l .n) (l .cost) (l .confirmed) (run .octets′) (run .words′)) =
     rw (one-carriers mode N, one-decode-readings mode N a counter (take (carriers mode N) (run .i)) (take (carriers mode N) (run .q)) (run .octets₀) (run .words₀) 0 (outcome (l .symbols) (l .n) (l .cost) (l .confirmed) (run .octets′) (run .words′)))
     (run .decoded)
     in
-    let back = chain-done (one mode N) counter a octets (run .sent₀) (run .sent) (run .i₀) (run .q₀) (run .i) (run .q) (run .octets₀) (run .words₀) _ low encoded taken decoded in
+    let back = chain-done Data (one mode N) counter a octets (run .sent₀) (run .sent) (run .i₀) (run .q₀) (run .i) (run .q) (run .octets₀) (run .words₀) _ low encoded taken decoded in
     (back .no-cost, back .sure)

@@ -3,6 +3,7 @@
 // and printing are not done here.
 use coder::wide;
 use modem::Answer;
+use modes::Kind;
 ghost use mathlib.Core.Path.{_≡_};
 ghost use mathlib.Core.Bool.{false};
 ghost use Prim.Native.Nat.{_≤_};
@@ -62,10 +63,10 @@ fn refusal(mode: u32, counter: u32, n: u32, a: u32) -> u32
     }
     let modes = [mode; 16];
     let lengths = [n; 16];
-    modes::refusal(1, &modes, &lengths, counter, a)
+    modes::refusal(Kind::Data, 1, &modes, &lengths, counter, a)
 }
 
-// Encodes, takes ideal readings, decodes: a record of which all has been tested, as a list of one PDU.
+// Encodes, takes ideal readings, decodes: a record of which all has been tested, as a list of one PDU of data.
 fn run(mode: u32, counter: u32, n: u32, a: u32, octets: &[u8]) -> Answer
     requires { ⌜ (ladder (described mode counter n a) ≡ 0) × (n ≤ 432) × (length (now octets) ≡ octetsOf n) ⌝ }
     ensures { λ r. ⌜ (r .refusal ≡ 0) × Run mode counter n a (now (octets .entry)) (line (r .symbols) (r .n) (r .cost) (r .confirmed)) ⌝ }
@@ -76,13 +77,23 @@ fn run(mode: u32, counter: u32, n: u32, a: u32, octets: &[u8]) -> Answer
     let modes = [mode; 16];
     let lengths = [n; 16];
     let mut sent = sent_room();
-    modem::encode(1, &modes, &lengths, counter, a, octets, &mut sent);
+    modem::encode(
+        Kind::Data,
+        1,
+        &modes,
+        &lengths,
+        counter,
+        a,
+        octets,
+        &mut sent,
+    );
     let mut i = readings_room();
     let mut q = readings_room();
     modem::ideal(1, &modes, &lengths, &sent[0..bits], &mut i, &mut q);
     let mut back = octets_room();
     let mut words = words_room();
     modem::decode_readings(
+        Kind::Data,
         1,
         &modes,
         &lengths,

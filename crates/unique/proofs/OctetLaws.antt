@@ -12,7 +12,7 @@ use Rattle.laws.proofs.ListLaws.{tabulate-at}
 use Rattle.laws.proofs.SumLaws.{total-ext}
 use Rattle.laws.proofs.Tables.{below-at}
 use Rattle.modes.specs.Sizes.{octetsOf}
-use Rattle.coder.specs.Scrambler.{bitOf, output, state, scrambledBit, scrambled}
+use Rattle.coder.specs.Scrambler.{bitOf, mask, maskedBit, scrambledFrom}
 use Rattle.unique.specs.Sameness.{Octets}
 
 -- one output added to two bits
@@ -20,11 +20,11 @@ same-sum : (x y z : ℕ) → x < 2 → y < 2 → (x + z) % 2 ≡ (y + z) % 2 →
 same-sum x y z hx hy e = omega arith
 
 -- the bits that were scrambled
-same-bits : (counter N : ℕ) (s r : List ℕ) → scrambled counter N s ≡ scrambled counter N r → (t : ℕ) → t < N → bitOf s t ≡ bitOf r t
-unfolding scrambled scrambledBit
-same-bits counter N s r e t h =
-    same-sum (bitOf s t) (bitOf r t) (output (state counter t)) (omega arith) (omega arith)
-    (sym (tabulate-at N (scrambledBit counter s) t 0 h) ∙ ap (λ l. getD l t 0) e ∙ tabulate-at N (scrambledBit counter r) t 0 h)
+same-bits : (first counter N : ℕ) (s r : List ℕ) → scrambledFrom first counter N s ≡ scrambledFrom first counter N r → (t : ℕ) → t < N → bitOf s t ≡ bitOf r t
+unfolding scrambledFrom maskedBit
+same-bits first counter N s r e t h =
+    same-sum (bitOf s t) (bitOf r t) (mask first counter t) (omega arith) (omega arith)
+    (sym (tabulate-at N (maskedBit first counter s) t 0 h) ∙ ap (λ l. getD l t 0) e ∙ tabulate-at N (maskedBit first counter r) t 0 h)
 
 -- an octet put together from its bits, most significant bit first
 joined : ℕ → ℕ
@@ -45,13 +45,13 @@ bitOf-octet s j i h =
     let inside : (8 * j + i) % 8 ≡ i = omega arith in
     rw (octet, inside)
 
-pub octets-back : (counter N : ℕ) → N % 8 ≡ 0 → (s r : List ℕ) → Octets (octetsOf N) s → Octets (octetsOf N) r
-    → scrambled counter N s ≡ scrambled counter N r → s ≡ r
+pub octets-back : (first counter N : ℕ) → N % 8 ≡ 0 → (s r : List ℕ) → Octets (octetsOf N) s → Octets (octetsOf N) r
+    → scrambledFrom first counter N s ≡ scrambledFrom first counter N r → s ≡ r
 unfolding octetsOf
-octets-back counter N whole s r hs hr e = ext-getD 0 s r (hs .count ∙ sym (hr .count)) at
+octets-back first counter N whole s r hs hr e = ext-getD 0 s r (hs .count ∙ sym (hr .count)) at
   where
     at : (j : ℕ) → j < length s → getD s j 0 ≡ getD r j 0
     at j h =
         let hj : j < N / 8 = omega (arith, hs .count) in
         same-octet (getD s j 0) (getD r j 0) (hs .low j hj) (hr .low j hj)
-        (λ i hi. sym (bitOf-octet s j i hi) ∙ same-bits counter N s r e (8 * j + i) (omega arith) ∙ bitOf-octet r j i hi)
+        (λ i hi. sym (bitOf-octet s j i hi) ∙ same-bits first counter N s r e (8 * j + i) (omega arith) ∙ bitOf-octet r j i hi)

@@ -15,6 +15,7 @@ use Rattle.modes.specs.Sizes.{sentBits, octetsOf}
 use Rattle.coder.specs.Scrambler.{scrambled}
 use Rattle.coder.specs.Encoder.{tailed, coded}
 use Rattle.coder.specs.Train.{Train}
+use Rattle.coder.proofs.ScramblerLaws.{from-the-first}
 use Rattle.coder.proofs.TrainLaws.{tailed-before, tailed-bits, scrambled-train}
 use Rattle.places.specs.Selection.{Selection}
 use Rattle.modes.specs.Pdus.{Pdu, lengthOf, sentOf}
@@ -80,17 +81,10 @@ train-unique k N a low high whole fits =
     shown-unique (train k a) N (sentBits k N) (takes-train k N a low high whole fits) (step-shown a (pdu k) (windowed-pdu k low high))
 
 -- and from sent bits back to octets
-pub listed-octets-unique : (ps : List Pdu) (a counter : ℕ) → EachFit ps → a + 72 ≤ lengthOf ps → lengthOf ps % 8 ≡ 0
-    → (s r : List ℕ) → Octets (octetsOf (lengthOf ps)) s → Octets (octetsOf (lengthOf ps)) r
-    → SameSent (listed ps a) (sentOf ps) (scrambled counter (lengthOf ps) s) (scrambled counter (lengthOf ps) r) → s ≡ r
-listed-octets-unique ps a counter fit fits whole s r hs hr same =
-    let N : ℕ = lengthOf ps in
-    octets-back counter N whole s r hs hr
-    (listed-unique ps a fit fits _ _ (scrambled-train counter N s) (scrambled-train counter N r) same)
-
 pub train-octets-unique : (k N a counter : ℕ) → 1 ≤ k → k ≤ 7 → N % info k ≡ 0 → a + 72 ≤ N → N % 8 ≡ 0
     → (s r : List ℕ) → Octets (octetsOf N) s → Octets (octetsOf N) r
     → SameSent (train k a) (sentBits k N) (scrambled counter N s) (scrambled counter N r) → s ≡ r
 train-octets-unique k N a counter low high symbols fits octets s r hs hr same =
-    octets-back counter N octets s r hs hr
-    (train-unique k N a low high symbols fits _ _ (scrambled-train counter N s) (scrambled-train counter N r) same)
+    octets-back 0 counter N octets s r hs hr
+    (train-unique k N a low high symbols fits _ _ (scrambled-train 0 counter N s) (scrambled-train 0 counter N r)
+    (rw (from-the-first counter N s, from-the-first counter N r) same))

@@ -1,63 +1,38 @@
-//! The library's C names and the safe functions over them: all that is unsafe in this package.
+//! The safe functions over the library's C names.
 //!
 //! Why it is sound. The library asks three things of its caller: that each pointer is good for its length, that a
-//! buffer it writes overlaps no other, and that the declarations below are those of juzambore.h. A pointer and a length
+//! buffer it writes overlaps no other, and that its declarations are those of juzambore.h. A pointer and a length
 //! always come from one slice, which is good for that many elements while it is borrowed, and a length goes as usize,
 //! which is size_t. Modes and lengths go without one: they are arrays of the sixteen numbers that juzambore.h asks for.
 //! A slice behind `&mut` overlaps no other borrowed one; two that are only read may, and no read can tell. Every other
 //! value is a plain number, of which any is accepted, and every bit pattern of what is written or answered is a value
 //! of its type.
-use crate::{Answer, Mapping};
+use crate::c_names::{
+    juzambore_decode_readings, juzambore_decode_soft, juzambore_encode, juzambore_ideal, juzambore_mapped,
+    juzambore_soften, CPoint,
+};
+use crate::{Answer, Kind, Mapping};
 
-#[repr(C)]
-struct CPoint {
-    refusal: u32,
-    i: f32,
-    q: f32,
+/// The number of a kind in C, where any number but 0 is BCH.
+fn number(kind: Kind) -> u32 {
+    match kind {
+        Kind::Data => 0,
+        Kind::Bch => 1,
+    }
 }
 
-#[repr(C)]
-struct CAnswer {
-    refusal: u32,
-    symbols: u32,
-    n: u32,
-    cost: u32,
-    confirmed: u32,
-}
-
-extern "C" {
-    fn juzambore_encode(
-        count: u32, modes: *const u32, lengths: *const u32, counter: u32, a: u32, octets: *const u8, octets_len: usize,
-        sent: *mut u8, sent_len: usize,
-    ) -> u32;
-    fn juzambore_ideal(
-        count: u32, modes: *const u32, lengths: *const u32, sent: *const u8, sent_len: usize, i: *mut i16,
-        i_len: usize, q: *mut i16, q_len: usize,
-    ) -> u32;
-    fn juzambore_mapped(mode: u32, group: u32) -> CPoint;
-    fn juzambore_soften(
-        count: u32, modes: *const u32, lengths: *const u32, i: *const i16, i_len: usize, q: *const i16, q_len: usize,
-        soft: *mut i8, soft_len: usize,
-    ) -> u32;
-    fn juzambore_decode_soft(
-        count: u32, modes: *const u32, lengths: *const u32, counter: u32, a: u32, soft: *const i8, soft_len: usize,
-        octets: *mut u8, octets_len: usize, words: *mut u64, words_len: usize,
-    ) -> CAnswer;
-    fn juzambore_decode_readings(
-        count: u32, modes: *const u32, lengths: *const u32, counter: u32, a: u32, i: *const i16, i_len: usize,
-        q: *const i16, q_len: usize, octets: *mut u8, octets_len: usize, words: *mut u64, words_len: usize,
-    ) -> CAnswer;
-}
-
-/// The sent bits of a train, one to a byte, in the order after the interleaver. Refusals 1 to 8 and 11.
+/// The sent bits of a train, one to a byte, in the order after the interleaver. Refusals 1 to 8 and 11; of a BCH also
+/// 12.
 ///
-/// It needs `N / 8` octets in, and room for the train's sent bits.
+/// It needs `N / 8` octets in, and room for the train's sent bits. The first four bits of a BCH must be the counter.
+#[allow(clippy::too_many_arguments)]
 pub fn encode(
-    count: u32, modes: &[u32; 16], lengths: &[u32; 16], counter: u32, a: u32, octets: &[u8], sent: &mut [u8],
+    kind: Kind, count: u32, modes: &[u32; 16], lengths: &[u32; 16], counter: u32, a: u32, octets: &[u8],
+    sent: &mut [u8],
 ) -> u32 {
     let (modes, lengths) = (modes.as_ptr(), lengths.as_ptr());
     let (from, to) = ((octets.as_ptr(), octets.len()), (sent.as_mut_ptr(), sent.len()));
-    unsafe { juzambore_encode(count, modes, lengths, counter, a, from.0, from.1, to.0, to.1) }
+    unsafe { juzambore_encode(number(kind), count, modes, lengths, counter, a, from.0, from.1, to.0, to.1) }
 }
 
 /// The ideal readings of sent bits: 256 times the level, 48 to a symbol on each axis. Refusals 1, 3, 4, 5, 7, 8, 9, 11.
@@ -88,43 +63,42 @@ pub fn soften(count: u32, modes: &[u32; 16], lengths: &[u32; 16], i: &[i16], q: 
     unsafe { juzambore_soften(count, modes, lengths, on_i.0, on_i.1, on_q.0, on_q.1, to.0, to.1) }
 }
 
-/// The train of least cost, from soft bytes. Refusals 1 to 9 and 11.
+/// The train of least cost, from soft bytes. Refusals 1 to 9 and 11; of a BCH also 12, and not 2.
 ///
 /// It needs a soft byte of -80 to 80 for each sent bit, room for `N / 8` octets, and `N + 6` working words, which are
-/// zero after success; what they held before does not matter.
+/// zero after success; what they held before does not matter. The counter of a BCH comes from the train that is found;
+/// the one that is given is not read.
 #[allow(clippy::too_many_arguments)]
 pub fn decode_soft(
-    count: u32, modes: &[u32; 16], lengths: &[u32; 16], counter: u32, a: u32, soft: &[i8], octets: &mut [u8],
-    words: &mut [u64],
+    kind: Kind, count: u32, modes: &[u32; 16], lengths: &[u32; 16], counter: u32, a: u32, soft: &[i8],
+    octets: &mut [u8], words: &mut [u64],
 ) -> Answer {
-    let (modes, lengths) = (modes.as_ptr(), lengths.as_ptr());
+    let (kind, modes, lengths) = (number(kind), modes.as_ptr(), lengths.as_ptr());
     let (to, work) = ((octets.as_mut_ptr(), octets.len()), (words.as_mut_ptr(), words.len()));
     let from = (soft.as_ptr(), soft.len());
-    answer(unsafe {
-        juzambore_decode_soft(count, modes, lengths, counter, a, from.0, from.1, to.0, to.1, work.0, work.1)
-    })
+    let answer = unsafe {
+        juzambore_decode_soft(kind, count, modes, lengths, counter, a, from.0, from.1, to.0, to.1, work.0, work.1)
+    };
+    answer.into()
 }
 
-/// The train of least cost, from readings: as [`soften`] and then [`decode_soft`]. Refusals 1 to 8 and 11.
+/// The train of least cost, from readings: as [`soften`] and then [`decode_soft`]. Refusals 1 to 8 and 11; of a BCH
+/// also 12, and not 2.
 ///
 /// It needs 48 x symbols readings on each axis, room for `N / 8` octets, and `N + 6` working words, which are zero
-/// after success; what they held before does not matter.
+/// after success; what they held before does not matter. The counter of a BCH is not read, as there.
 #[allow(clippy::too_many_arguments)]
 pub fn decode_readings(
-    count: u32, modes: &[u32; 16], lengths: &[u32; 16], counter: u32, a: u32, i: &[i16], q: &[i16], octets: &mut [u8],
-    words: &mut [u64],
+    kind: Kind, count: u32, modes: &[u32; 16], lengths: &[u32; 16], counter: u32, a: u32, i: &[i16], q: &[i16],
+    octets: &mut [u8], words: &mut [u64],
 ) -> Answer {
-    let (modes, lengths) = (modes.as_ptr(), lengths.as_ptr());
+    let (kind, modes, lengths) = (number(kind), modes.as_ptr(), lengths.as_ptr());
     let (on_i, on_q) = ((i.as_ptr(), i.len()), (q.as_ptr(), q.len()));
     let (to, work) = ((octets.as_mut_ptr(), octets.len()), (words.as_mut_ptr(), words.len()));
-    answer(unsafe {
+    let answer = unsafe {
         juzambore_decode_readings(
-            count, modes, lengths, counter, a, on_i.0, on_i.1, on_q.0, on_q.1, to.0, to.1, work.0, work.1,
+            kind, count, modes, lengths, counter, a, on_i.0, on_i.1, on_q.0, on_q.1, to.0, to.1, work.0, work.1,
         )
-    })
-}
-
-fn answer(from: CAnswer) -> Answer {
-    let CAnswer { refusal, symbols, n, cost, confirmed } = from;
-    Answer { refusal, symbols, n, cost, confirmed: confirmed != 0 }
+    };
+    answer.into()
 }

@@ -2,8 +2,8 @@
 use crate::description::Description;
 use crate::independent;
 use crate::lent::Lent;
-use crate::ordinary;
-use juzambore::{Answer, Mapping};
+use crate::{numbered, ordinary};
+use juzambore::{Answer, Kind, Mapping};
 
 #[derive(Clone, Copy, Debug, PartialEq)]
 pub enum Call {
@@ -23,23 +23,30 @@ impl Call {
         ["encode", "ideal", "mapped", "soften", "decode_soft", "decode_readings"][self as usize]
     }
 
-    /// Whether the documents give this call the refusal of a number: one of its parameters, lengths or values.
-    pub fn can_refuse(self, number: u32) -> bool {
-        let has_place = matches!(self, Call::Encode | Call::DecodeSoft | Call::DecodeReadings);
+    /// Whether it takes a kind, a counter and an a.
+    pub fn has_place(self) -> bool {
+        matches!(self, Call::Encode | Call::DecodeSoft | Call::DecodeReadings)
+    }
+
+    /// Whether the documents give this call, of this kind, the refusal of a number: one of its parameters, lengths or
+    /// values.
+    pub fn can_refuse(self, kind: Kind, number: u32) -> bool {
         match number {
             1 => true,
-            2 | 6 => has_place,
+            2 => self == Call::Encode || self.has_place() && kind == Kind::Data,
+            6 => self.has_place(),
             9 => matches!(self, Call::Ideal | Call::Mapped | Call::DecodeSoft),
+            12 => self.has_place() && kind == Kind::Bch,
             _ => self != Call::Mapped,
         }
     }
 }
 
-pub type Encode = fn(u32, &[u32; 16], &[u32; 16], u32, u32, &[u8], &mut [u8]) -> u32;
+pub type Encode = fn(Kind, u32, &[u32; 16], &[u32; 16], u32, u32, &[u8], &mut [u8]) -> u32;
 type Ideal = fn(u32, &[u32; 16], &[u32; 16], &[u8], &mut [i16], &mut [i16]) -> u32;
 type Soften = fn(u32, &[u32; 16], &[u32; 16], &[i16], &[i16], &mut [i8]) -> u32;
-pub type DecodeSoft = fn(u32, &[u32; 16], &[u32; 16], u32, u32, &[i8], &mut [u8], &mut [u64]) -> Answer;
-type DecodeReadings = fn(u32, &[u32; 16], &[u32; 16], u32, u32, &[i16], &[i16], &mut [u8], &mut [u64]) -> Answer;
+pub type DecodeSoft = fn(Kind, u32, &[u32; 16], &[u32; 16], u32, u32, &[i8], &mut [u8], &mut [u64]) -> Answer;
+type DecodeReadings = fn(Kind, u32, &[u32; 16], &[u32; 16], u32, u32, &[i16], &[i16], &mut [u8], &mut [u64]) -> Answer;
 
 /// An implementation of the six calls.
 pub struct Calls {
@@ -71,6 +78,24 @@ pub const INDEPENDENT: Calls = Calls {
 
 /// The two calls that the ordinary one has; the others are as above.
 pub const ORDINARY: Calls = Calls { encode: ordinary::encode, decode_soft: ordinary::decode_soft, ..INDEPENDENT };
+
+/// The library with a number for the kind, whatever kind is asked for: its number, what it must mean, and the calls.
+pub const BY_NUMBER: [(u32, Kind, Calls); 5] = [
+    (0, Kind::Data, with_number::<0>()),
+    (1, Kind::Bch, with_number::<1>()),
+    (2, Kind::Bch, with_number::<2>()),
+    (7, Kind::Bch, with_number::<7>()),
+    (u32::MAX, Kind::Bch, with_number::<{ u32::MAX }>()),
+];
+
+const fn with_number<const KIND: u32>() -> Calls {
+    Calls {
+        encode: numbered::encode::<KIND>,
+        decode_soft: numbered::decode_soft::<KIND>,
+        decode_readings: numbered::decode_readings::<KIND>,
+        ..LIBRARY
+    }
+}
 
 /// What a call answers; the parts of a point as their bits.
 #[derive(Clone, Copy, Debug, PartialEq)]
@@ -120,10 +145,10 @@ impl Case {
     /// Does the call; the buffers are then as it left them.
     pub fn run(&mut self, by: &Calls) -> Told {
         let Case { train, octets, sent, i, q, soft, words, .. } = self;
-        let &mut Description { count, ref modes, ref lengths, counter, a } = train;
+        let &mut Description { kind, count, ref modes, ref lengths, counter, a } = train;
         match self.call {
             Call::Encode => {
-                Told::Number((by.encode)(count, modes, lengths, counter, a, octets.part(), sent.part_mut()))
+                Told::Number((by.encode)(kind, count, modes, lengths, counter, a, octets.part(), sent.part_mut()))
             }
             Call::Ideal => Told::Number((by.ideal)(count, modes, lengths, sent.part(), i.part_mut(), q.part_mut())),
             Call::Mapped => {
@@ -133,11 +158,11 @@ impl Case {
             Call::Soften => Told::Number((by.soften)(count, modes, lengths, i.part(), q.part(), soft.part_mut())),
             Call::DecodeSoft => {
                 let (octets, words) = (octets.part_mut(), words.part_mut());
-                Told::Decoded((by.decode_soft)(count, modes, lengths, counter, a, soft.part(), octets, words))
+                Told::Decoded((by.decode_soft)(kind, count, modes, lengths, counter, a, soft.part(), octets, words))
             }
             Call::DecodeReadings => {
                 let (i, q, octets, words) = (i.part(), q.part(), octets.part_mut(), words.part_mut());
-                Told::Decoded((by.decode_readings)(count, modes, lengths, counter, a, i, q, octets, words))
+                Told::Decoded((by.decode_readings)(kind, count, modes, lengths, counter, a, i, q, octets, words))
             }
         }
     }

@@ -1,10 +1,14 @@
 //! Random calls: random trains, and what can be wrong with each length and value that a call is lent.
 use crate::calls::{Call, Case};
-use crate::description::Description;
+use crate::description::{begin_with, Description};
 use crate::independent::encode;
 use crate::lent::Lent;
 use crate::random::Random;
 use crate::trains::{self, MOST};
+use juzambore::Kind;
+
+/// The deviation of the noise that drowns a BCH's counter; its levels are 512 apart.
+pub const DROWNING: i32 = 900;
 
 /// The length of a slice that must be exactly so long, now and then wrong.
 fn exact(random: &mut Random, needed: usize) -> usize {
@@ -35,9 +39,9 @@ fn sent_bits(random: &mut Random, count: usize) -> Vec<u8> {
 
 /// The sent bits of a random train of this description.
 fn train(random: &mut Random, train: &Description) -> Vec<u8> {
-    let (size, Description { count, modes, lengths, counter, a }) = (train.size(), train);
-    let (octets, mut sent) = (random.octets(size.n / 8), vec![0; size.sent]);
-    assert_eq!(encode(*count, modes, lengths, *counter, *a, &octets, &mut sent), 0);
+    let Description { kind, count, modes, lengths, counter, a } = train;
+    let (octets, mut sent) = (train.octets(random), vec![0; train.size().sent]);
+    assert_eq!(encode(*kind, *count, modes, lengths, *counter, *a, &octets, &mut sent), 0);
     sent
 }
 
@@ -81,6 +85,13 @@ fn spoil(random: &mut Random, soft: &mut [i8]) {
     }
 }
 
+/// Nothing is left of exactly those soft bytes that hang on a BCH's counter.
+fn lose_counter(random: &mut Random, train: &Description, soft: &mut [i8]) {
+    for (byte, _) in soft.iter_mut().zip(train.counter_bits()).filter(|(_, hangs)| *hangs) {
+        *byte = random.around(80) as i8;
+    }
+}
+
 /// Readings of no train: anything, around the levels, at the ends of what is held, zero.
 fn readings(random: &mut Random, count: usize) -> Vec<i16> {
     let ends = [-32768, 32767, 2047, 2048, 2049, -2047, -2048, -2049, 0];
@@ -101,9 +112,51 @@ pub fn with_noise(random: &mut Random, ideal: &[i16], strength: i32) -> Vec<i16>
     ideal.iter().map(noisy).collect()
 }
 
-/// A random call.
+/// Noise that leaves little of exactly those readings that hang on a BCH's counter.
+pub fn drown_counter(random: &mut Random, train: &Description, i: &mut [i16]) {
+    for (reading, _) in i.iter_mut().zip(train.counter_bits()).filter(|(_, hangs)| *hangs) {
+        *reading = with_noise(random, &[*reading], DROWNING)[0];
+    }
+}
+
+/// A random call for data.
 pub fn random_case(random: &mut Random, call: Call) -> Case {
-    let mut case = Case::new(call, trains::any(random));
+    let train = trains::any(random);
+    case_of(random, call, train)
+}
+
+/// A random call for a BCH: good ones, near ones, and any train that is called a BCH.
+pub fn bch_case(random: &mut Random, call: Call) -> Case {
+    let train = match random.below(6) {
+        0 => trains::any(random),
+        1 => trains::near_bch(random),
+        _ => trains::bch(random),
+    };
+    let mut case = case_of(random, call, train);
+    case.train = case.train.as_bch();
+    match call {
+        Call::Encode => begin(random, &mut case),
+        _ => case.train.counter = any_counter(random, case.train.counter),
+    }
+    case
+}
+
+/// The counter goes before the octets, now and then with a wrong bit or n1 first.
+fn begin(random: &mut Random, case: &mut Case) {
+    let counter = case.train.counter;
+    let (wrong, turned) = (counter ^ 1 << random.below(4), (counter << 28).reverse_bits());
+    begin_with(case.octets.part_mut(), random.pick(&[counter, counter, counter, counter, wrong, turned]));
+}
+
+/// A counter to decode a BCH with, which is not read: this one, another, or none.
+pub fn any_counter(random: &mut Random, counter: u32) -> u32 {
+    let (other, any) = (random.below(16) as u32, random.word() as u32);
+    random.pick(&[counter, other, 16, 99, any, MOST])
+}
+
+/// A call for a good train, with all it needs, and then now and then something wrong.
+fn case_of(random: &mut Random, call: Call, train: Description) -> Case {
+    let mut case = Case::new(call, train);
     match call {
         Call::Encode => encode_case(random, &mut case),
         Call::Ideal => ideal_case(random, &mut case),
@@ -144,7 +197,10 @@ fn soften_case(random: &mut Random, case: &mut Case) {
 }
 
 fn decode_soft_case(random: &mut Random, case: &mut Case) {
-    let soft = soft_bytes(random, &case.train);
+    let mut soft = soft_bytes(random, &case.train);
+    if case.train.kind == Kind::Bch && random.one_in(2) {
+        lose_counter(random, &case.train, &mut soft);
+    }
     let count = exact(random, soft.len());
     case.soft = Lent::holding(random, &soft, count);
     train_out(random, case);

@@ -95,3 +95,67 @@ fn sums() -> Vec<Rung> {
         rung(7, &widest, 15, 3384),
     ]
 }
+
+/// A description of a BCH, and what encoding and decoding refuse it with. Decoding does not read the counter.
+pub struct BchRung {
+    pub train: Description,
+    pub encode: u32,
+    pub decode: u32,
+}
+
+pub fn bch_rungs() -> Vec<BchRung> {
+    [bch_counters(), bch_lists()].into_iter().flatten().collect()
+}
+
+fn bch_rung(encode: u32, decode: u32, pdus: &[(u32, u32)], counter: u32, a: u32) -> BchRung {
+    BchRung { train: Description::of(pdus, counter, a).as_bch(), encode, decode }
+}
+
+/// All counters that are good, and one above 15 before each later refusal.
+fn bch_counters() -> Vec<BchRung> {
+    let good = (0..=15).map(|counter| bch_rung(7, 7, &[(1, 120)], counter, 0));
+    let above = [
+        bch_rung(11, 11, &[], 16, MOST),
+        bch_rung(1, 1, &[(0, 120)], MOST, 0),
+        bch_rung(1, 1, &[(1, 120), (8, 64)], 16, MOST),
+        bch_rung(2, 3, &[(1, 64)], 16, MOST),
+        bch_rung(2, 4, &[(1, 124)], 16, MOST),
+        bch_rung(2, 5, &[(1, 120), (3, 120)], MOST, MOST),
+        bch_rung(2, 3, &[(1, 3456), (1, 120)], 16, MOST),
+        bch_rung(2, 6, &[(1, 120)], 16, 49),
+        bch_rung(2, 12, &[(1, 120)], 16, 48),
+        bch_rung(2, 12, &[(1, 96)], MOST, 0),
+        bch_rung(2, 7, &[(1, 120)], 16, 0),
+        bch_rung(2, 7, &[(1, 120)], MOST, 0),
+    ];
+    good.chain(above).collect()
+}
+
+/// 12 comes after 6, for each of its causes. No mode but 1 has PDUs of 120 bits.
+fn bch_lists() -> Vec<BchRung> {
+    let both = |refusal: u32, pdus: &[(u32, u32)], a: u32| bch_rung(refusal, refusal, pdus, 15, a);
+    let others = (2..=7).map(|mode| both(5, &[(mode, 120)], MOST));
+    let rungs = [
+        both(3, &[(1, 64)], MOST),
+        both(4, &[(1, 124)], MOST),
+        both(3, &[(1, 120), (1, 64)], MOST),
+        both(4, &[(1, 120), (1, 124)], MOST),
+        both(5, &[(1, 120), (2, 120)], MOST),
+        both(3, &[(1, 120), (1, 3384)], MOST),
+        both(6, &[(1, 120)], 49),
+        both(6, &[(1, 96)], 25),
+        both(6, &[(4, 72)], 1),
+        both(6, &[(1, 120), (1, 120)], 169),
+        both(12, &[(1, 120)], 48),
+        both(12, &[(1, 120)], 1),
+        both(12, &[(1, 96)], 24),
+        both(12, &[(1, 96)], 0),
+        both(12, &[(1, 144)], 0),
+        both(12, &[(7, 216)], 144),
+        both(12, &[(4, 72)], 0),
+        both(12, &[(1, 120), (1, 120)], 120),
+        both(12, &[(1, 120), (1, 72)], 0),
+        both(12, &and_last(15, (1, 120), (1, 120)), 0),
+    ];
+    others.chain(rungs).collect()
+}

@@ -1,7 +1,8 @@
 //! Holds libjuzambore.a against an independent implementation, and races it with an ordinary one.
 //!
 //!     trial vectors FILE...          recorded calls, line by line
-//!     trial calls [COUNT [SEED]]     at least COUNT random calls (100,000), half of them with lists of several PDUs
+//!     trial calls [COUNT [SEED]]     at least COUNT random calls for data (100,000), half of them with lists of several
+//!                                    PDUs, and a fifth as many more for BCH
 //!     trial agree                    that all agree on the trains of the race
 //!     trial mixed                    the modes and lengths of the race's mixed train
 //!     trial run WHO WHAT MODE COUNT  a job COUNT times, to count its instructions: WHO is proved, ordinary or shape (a
@@ -17,6 +18,7 @@ mod gauge;
 mod independent;
 mod ladder;
 mod lent;
+mod numbered;
 mod ordinary;
 mod random;
 mod speed;

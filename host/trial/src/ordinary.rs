@@ -6,7 +6,7 @@ mod same_shape;
 #[path = "../../search/ordinary.rs"]
 mod search;
 
-use juzambore::Answer;
+use juzambore::{Answer, Kind};
 use std::ops::Range;
 
 const MOST: usize = 3456;
@@ -63,8 +63,9 @@ impl Mode {
     }
 }
 
-/// A good description: the PDUs' modes and lengths, and the train's counts.
+/// A good description: the train's kind, the PDUs' modes and lengths, and the train's counts.
 pub struct Train<'a> {
+    kind: Kind,
     modes: &'a [u32],
     lengths: &'a [u32],
     n: usize,
@@ -74,7 +75,7 @@ pub struct Train<'a> {
 
 /// What its description says of a train, or its refusal.
 pub fn described<'a>(
-    count: u32, modes: &'a [u32; 16], lengths: &'a [u32; 16], counter: u32, a: u32,
+    kind: Kind, count: u32, modes: &'a [u32; 16], lengths: &'a [u32; 16], counter: u32, a: u32,
 ) -> Result<Train<'a>, u32> {
     if !(1..=16).contains(&count) {
         return Err(11);
@@ -86,7 +87,7 @@ pub fn described<'a>(
     if counter > 15 {
         return Err(2);
     }
-    let mut train = Train { modes, lengths, n: 0, symbols: 0, sent: 0 };
+    let mut train = Train { kind, modes, lengths, n: 0, symbols: 0, sent: 0 };
     for (m, length) in train.pdus() {
         let symbols = symbols_of(m, length)?;
         train.n += length;
@@ -96,6 +97,7 @@ pub fn described<'a>(
     match train.n {
         n if n > MOST => Err(3),
         n if a as usize > n - 72 => Err(6),
+        _ if kind == Kind::Bch && (modes, lengths, a) != (&[1], &[120], 0) => Err(12),
         _ => Ok(train),
     }
 }
@@ -130,10 +132,27 @@ impl<'a> Train<'a> {
     }
 }
 
-/// The next scrambler state and its output.
-fn scramble(state: u32) -> (u32, u8) {
-    let feedback = (state >> 6 ^ state >> 3) & 1;
-    ((state << 1 | feedback) & 0x7f, feedback as u8)
+/// Its state, and how many bits go through it before it starts: the four of a BCH's counter.
+struct Scrambler {
+    state: u32,
+    waits: u32,
+}
+
+impl Scrambler {
+    fn new(kind: Kind, counter: u32) -> Scrambler {
+        Scrambler { state: 0x70 | counter, waits: if kind == Kind::Bch { 4 } else { 0 } }
+    }
+
+    /// The next bit, scrambled.
+    fn pass(&mut self, bit: u8) -> u8 {
+        if self.waits > 0 {
+            self.waits -= 1;
+            return bit;
+        }
+        let feedback = (self.state >> 6 ^ self.state >> 3) & 1;
+        self.state = (self.state << 1 | feedback) & 0x7f;
+        bit ^ feedback as u8
+    }
 }
 
 /// Whether P1 at a keeps X and Y of input t.
@@ -142,10 +161,12 @@ fn kept_by_p1(a: usize, t: usize) -> (bool, bool) {
     (within != 6, within != 12)
 }
 
+#[allow(clippy::too_many_arguments)]
 pub fn encode(
-    count: u32, modes: &[u32; 16], lengths: &[u32; 16], counter: u32, a: u32, octets: &[u8], sent: &mut [u8],
+    kind: Kind, count: u32, modes: &[u32; 16], lengths: &[u32; 16], counter: u32, a: u32, octets: &[u8],
+    sent: &mut [u8],
 ) -> u32 {
-    let train = match described(count, modes, lengths, counter, a) {
+    let train = match described(kind, count, modes, lengths, counter, a) {
         Ok(train) => train,
         Err(refusal) => return refusal,
     };
@@ -155,8 +176,11 @@ pub fn encode(
     if sent.len() < train.sent {
         return 8;
     }
+    if kind == Kind::Bch && u32::from(octets[0] >> 4) != counter {
+        return 12;
+    }
     let mut coded = [0u8; 2 * MOST];
-    code(counter, train.n, a as usize, octets, &mut coded);
+    code(Scrambler::new(kind, counter), train.n, a as usize, octets, &mut coded);
     for (m, share, place) in train.shares() {
         send(m, &coded[share], &mut sent[place]);
     }
@@ -164,16 +188,13 @@ pub fn encode(
 }
 
 /// Scrambler, tail, X and Y, and P1. The kept X go out at even places and the kept Y at odd ones.
-fn code(counter: u32, n: usize, a: usize, octets: &[u8], coded: &mut [u8]) {
-    let mut scrambler = 0x70 | counter;
+fn code(mut scrambler: Scrambler, n: usize, a: usize, octets: &[u8], coded: &mut [u8]) {
     let mut register = 0u32;
     let (mut even, mut odd) = (0, 1);
     for t in 0..n + 6 {
         let mut bit = 0;
         if t < n {
-            let (next, mask) = scramble(scrambler);
-            scrambler = next;
-            bit = octets[t / 8] >> (7 - t % 8) & 1 ^ mask;
+            bit = scrambler.pass(octets[t / 8] >> (7 - t % 8) & 1);
         }
         register = register >> 1 | u32::from(bit) << 6;
         let (keeps_x, keeps_y) = kept_by_p1(a, t);
@@ -204,23 +225,31 @@ fn refused(refusal: u32) -> Answer {
     Answer { refusal, symbols: 0, n: 0, cost: 0, confirmed: false }
 }
 
+/// The counter of a BCH is not read: one that is never refused stands for it.
+fn read_by_decode(kind: Kind, counter: u32) -> u32 {
+    match kind {
+        Kind::Data => counter,
+        Kind::Bch => 0,
+    }
+}
+
 type Heart = (fn(usize, &[u8], &mut [u8], &mut [u64]) -> u32, fn(usize, &[u8], &[u8]) -> bool);
 
 #[allow(clippy::too_many_arguments)]
 pub fn decode_soft(
-    count: u32, modes: &[u32; 16], lengths: &[u32; 16], counter: u32, a: u32, soft: &[i8], octets: &mut [u8],
-    words: &mut [u64],
+    kind: Kind, count: u32, modes: &[u32; 16], lengths: &[u32; 16], counter: u32, a: u32, soft: &[i8],
+    octets: &mut [u8], words: &mut [u64],
 ) -> Answer {
-    let train = described(count, modes, lengths, counter, a);
+    let train = described(kind, count, modes, lengths, read_by_decode(kind, counter), a);
     decode_by((search::search, search::mark), train, counter, a, soft, octets, words).unwrap_or_else(refused)
 }
 
 #[allow(clippy::too_many_arguments)]
 pub fn decode_in_same_shape(
-    count: u32, modes: &[u32; 16], lengths: &[u32; 16], counter: u32, a: u32, soft: &[i8], octets: &mut [u8],
-    words: &mut [u64],
+    kind: Kind, count: u32, modes: &[u32; 16], lengths: &[u32; 16], counter: u32, a: u32, soft: &[i8],
+    octets: &mut [u8], words: &mut [u64],
 ) -> Answer {
-    let train = described(count, modes, lengths, counter, a);
+    let train = described(kind, count, modes, lengths, read_by_decode(kind, counter), a);
     decode_by((same_shape::search, same_shape::mark), train, counter, a, soft, octets, words).unwrap_or_else(refused)
 }
 
@@ -244,7 +273,7 @@ fn decode_by(
     let found = &mut found[..n];
     let cost = search(n, heard, found, &mut words[..n + 6]);
     let confirmed = mark(n, heard, found);
-    descramble(counter, found, octets);
+    descramble(train.kind, counter, found, octets);
     Ok(Answer { refusal: 0, symbols: train.symbols as u32, n: soft.len() as u32, cost, confirmed })
 }
 
@@ -282,14 +311,11 @@ fn receive(m: &Mode, soft: &[i8], coded: &mut [u8]) {
     }
 }
 
-fn descramble(counter: u32, train: &[u8], octets: &mut [u8]) {
-    let mut scrambler = 0x70 | counter;
+/// A BCH tells its own counter.
+fn descramble(kind: Kind, counter: u32, train: &[u8], octets: &mut [u8]) {
+    let told = train[..4].iter().fold(0, |counter, &bit| counter << 1 | u32::from(bit));
+    let mut scrambler = Scrambler::new(kind, if kind == Kind::Bch { told } else { counter });
     for (bits, octet) in train.chunks_exact(8).zip(octets) {
-        *octet = 0;
-        for bit in bits {
-            let (next, mask) = scramble(scrambler);
-            scrambler = next;
-            *octet = *octet << 1 | bit ^ mask;
-        }
+        *octet = bits.iter().fold(0, |octet, &bit| octet << 1 | scrambler.pass(bit));
     }
 }

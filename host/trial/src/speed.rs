@@ -4,6 +4,7 @@ use crate::calls::{DecodeSoft, Encode};
 use crate::description::Description;
 use crate::random::Random;
 use crate::{gauge, ordinary};
+use juzambore::Kind;
 use std::hint::black_box;
 use std::time::Instant;
 
@@ -65,10 +66,11 @@ impl Desk {
         let octets = random.octets(n / 8);
         let Description { count, modes, lengths, a, .. } = &train;
         let mut sent = vec![0; train.size().sent];
-        assert_eq!(juzambore::encode(*count, modes, lengths, COUNTER, *a, &octets, &mut sent), 0);
+        assert_eq!(juzambore::encode(Kind::Data, *count, modes, lengths, COUNTER, *a, &octets, &mut sent), 0);
         let noisy = |&bit: &u8| ((if bit == 1 { 24 } else { -24 }) + random.noise(10)).clamp(-80, 80) as i8;
         let soft: Vec<i8> = sent.iter().map(noisy).collect();
-        let described = ordinary::described(*count, modes, lengths, COUNTER, *a).expect("a good description");
+        let described =
+            ordinary::described(Kind::Data, *count, modes, lengths, COUNTER, *a).expect("a good description");
         let heard = ordinary::spread(&described, *a as usize, &soft).to_vec();
         Desk { train, octets, soft, heard, sent, found: vec![0; n], words: vec![0; n + 6] }
     }
@@ -77,7 +79,7 @@ impl Desk {
     fn encode(&mut self, by: Encode) -> u32 {
         let Description { count, modes, lengths, a, .. } = black_box(&self.train);
         self.sent.fill(0);
-        let refusal = by(*count, modes, lengths, COUNTER, *a, &self.octets, &mut self.sent);
+        let refusal = by(Kind::Data, *count, modes, lengths, COUNTER, *a, &self.octets, &mut self.sent);
         black_box(&self.sent);
         refusal
     }
@@ -88,7 +90,7 @@ impl Desk {
         let (octets, words) = (&mut self.found[..self.octets.len()], &mut self.words[..]);
         octets.fill(0);
         words.fill(0);
-        let answer = by(*count, modes, lengths, COUNTER, *a, &self.soft, octets, words);
+        let answer = by(Kind::Data, *count, modes, lengths, COUNTER, *a, &self.soft, octets, words);
         black_box((octets, words));
         2 * answer.cost + u32::from(answer.confirmed)
     }

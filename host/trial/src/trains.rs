@@ -1,4 +1,5 @@
-//! Random descriptions: lists of 1 to 16 PDUs, short and long, P1 anywhere, and what can be wrong with each number.
+//! Random descriptions: lists of 1 to 16 PDUs, short and long, P1 anywhere; BCHs and what is near them; and what can be
+//! wrong with each number.
 use crate::description::Description;
 use crate::independent::modes::MODES;
 use crate::random::Random;
@@ -89,6 +90,28 @@ fn some_place(random: &mut Random, train: &Description) -> u32 {
         }
     };
     random.pick(&[0, last, within, border, border, border])
+}
+
+/// A good BCH.
+pub fn bch(random: &mut Random) -> Description {
+    let train = finished(random, &[(1, 120)]);
+    Description { a: 0, ..train.as_bch() }
+}
+
+/// Good as data, and all but a BCH: it has more PDUs, another length, another mode, whose lengths are never 120, or
+/// another a.
+pub fn near_bch(random: &mut Random) -> Description {
+    let (mode, more) = (2 + random.below(6) as u32, random.pick(&[1, 1, 2, 15]));
+    let (other, behind) = (random.pick(&[72, 96, 144, 240, LONGEST]), random.pick(&[72, 120]));
+    let mut pdus = vec![(1, 120)];
+    let mut a = 0;
+    match random.below(4) {
+        0 => pdus.resize(1 + more, (1, behind)),
+        1 => pdus[0].1 = other,
+        2 => pdus[0] = (mode, some_length(random, mode, 72, 216)),
+        _ => a = random.pick(&[1, 2, 8, 24, 47, 48]),
+    }
+    Description { a, ..finished(random, &pdus) }
 }
 
 /// Now and then some of a description's numbers are bad, or any 32 bits.

@@ -1,13 +1,13 @@
 //! Recorded calls, line by line, by every implementation: the library, the independent and the ordinary one.
 //!
 //! A line of `encode` is: kind, modes, counter, lengths, a, octets in hex, sent bits. A line of `decode_soft` is: kind,
-//! modes, counter, lengths, a, soft bytes, `=`, refusal, symbols, n, cost, mark (C, D or -), octets in hex. Modes and
-//! lengths are numbers with commas between them, one for each PDU.
+//! modes, counter, lengths, a, soft bytes, `=`, refusal, symbols, n, cost, mark (C, D or -), octets in hex. The kind is
+//! data or bch. Modes and lengths are numbers with commas between them, one for each PDU.
 use crate::calls::{Call, Case, Told, INDEPENDENT, LIBRARY, ORDINARY};
 use crate::description::Description;
 use crate::lent::Lent;
 use crate::random::Random;
-use juzambore::Answer;
+use juzambore::{Answer, Kind};
 use std::fs;
 
 /// A recorded call, what it answers and what it leaves.
@@ -29,7 +29,12 @@ fn octets_of(hex: &str) -> Vec<u8> {
 fn described(words: &[&str]) -> Description {
     let pdus = words[1].split(',').zip(words[3].split(','));
     let pdus: Vec<(u32, u32)> = pdus.map(|(mode, length)| (number(mode), number(length))).collect();
-    Description::of(&pdus, number(words[2]), number(words[4]))
+    let train = Description::of(&pdus, number(words[2]), number(words[4]));
+    match words[0] {
+        "data" => train,
+        "bch" => train.as_bch(),
+        kind => panic!("no kind {kind}"),
+    }
 }
 
 fn encode_line(line: &str) -> Recorded {
@@ -61,13 +66,14 @@ fn decode_line(call: &str, answer: &str) -> Recorded {
 /// Runs the lines of a file; whether all give what is recorded.
 pub fn agree(path: &str) -> bool {
     let text = fs::read_to_string(path).unwrap_or_else(|error| panic!("{path}: {error}"));
-    let (mut wrong, mut lists) = (0, 0);
+    let (mut wrong, mut lists, mut bchs) = (0, 0, 0);
     for (number, line) in text.lines().enumerate() {
         let recorded = match line.split_once(" = ") {
             Some((call, answer)) => decode_line(call, answer),
             None => encode_line(line),
         };
         lists += usize::from(recorded.case.train.is_mixed());
+        bchs += usize::from(recorded.case.train.kind == Kind::Bch);
         for (name, by) in [("library", &LIBRARY), ("independent", &INDEPENDENT), ("ordinary", &ORDINARY)] {
             let mut case = recorded.case.clone();
             let told = case.run(by);
@@ -79,6 +85,7 @@ pub fn agree(path: &str) -> bool {
         }
     }
     let lines = text.lines().count();
-    println!("{path}: {lines} lines, {lists} with several PDUs, by the library and both others: {wrong} differences");
+    print!("{path}: {lines} lines, {lists} with several PDUs and {bchs} of BCH, ");
+    println!("by the library and both others: {wrong} differences");
     wrong == 0 && lines > 0
 }

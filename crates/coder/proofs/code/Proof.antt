@@ -1,76 +1,30 @@
--- `coder::code` writes the train's coded bits. Each turn is one step of scrambler and register (CodeLaws).
+-- `coder::code`: the bits before the scrambler's first, and then the others.
 -- Assumes nothing.
-use Prim.Native.Nat.{_+_, _-_}
 use native.Mathlib.Omega.{arith}
-use Rattle.coder.proofs.CodeLaws.{Coding, coding-start, coding-again, coding-done}
+use borrow.Author.Needs.{needs}
+use Rattle.coder.proofs.CodeLaws.{coded-both}
 use Rattle.coder.proofs.code.Statement.{statement}
 use Rattle.coder.proofs.code.Tie as tie
 
-abbrev Inv-loop : tie.InvT-loop
-Inv-loop counter n octets coded₀ s₀ register₀ t₀ coded s register t = Coding counter n octets coded₀ coded s register t
+code-on-requires : tie.Need-code-on-requires
+code-on-requires c κs = search needs
 
-abbrev μ-loop : tie.MeasureT-loop
-μ-loop counter n octets coded₀ s₀ register₀ t₀ coded s register t = n + 6 - t
+add-code-on : tie.Need-add-code-on
+add-code-on c = search needs
 
-add-s : tie.Need-add-s Inv-loop μ-loop
-add-s c = omega arith
+add-code-on-2 : tie.Need-add-code-on-2
+add-code-on-2 c = search needs
 
-loop-holds : tie.Need-loop-holds Inv-loop μ-loop
-loop-holds c = coding-start _ _ _ _ (omega arith)
+code-on-requires-2 : tie.Need-code-on-requires-2
+code-on-requires-2 c κs = search needs
 
-add-loop : tie.Need-add-loop Inv-loop μ-loop
-add-loop c = omega arith
+same-length : tie.Need-same-length
+same-length c = search needs
 
-input-bit-requires : tie.Need-input-bit-requires Inv-loop μ-loop
-input-bit-requires c κs = omega arith
-
-shifted-from-requires : tie.Need-shifted-from-requires Inv-loop μ-loop
-shifted-from-requires c κs = omega arith
-
-register-after-requires : tie.Need-register-after-requires Inv-loop μ-loop
-register-after-requires c κs = omega arith
-
-put-pair-requires : tie.Need-put-pair-requires Inv-loop μ-loop
-put-pair-requires c κs = omega arith
-
-add-t : tie.Need-add-t Inv-loop μ-loop
-add-t c = omega arith
-
-loop-less : tie.Need-loop-less Inv-loop μ-loop
-loop-less c = omega arith
-
-loop-again : tie.Need-loop-again Inv-loop μ-loop
-loop-again c =
-    let turn = c .before .before .before .before .before .before .before in
-    coding-again _ _ _ _ (omega arith) _ _ _ _ _ _ _ _
-    (turn .before .loop .inv)
-    (turn .loop-test .taken)
-    (c .before .before .before .before .before .before .input-bit .ensures .0)
-    (c .before .before .before .before .before .shifted-from .ensures)
-    (c .before .before .before .before .register-after .ensures)
-    (c .before .before .put-pair .ensures)
-
-same-length : tie.Need-same-length Inv-loop μ-loop
-same-length c = c .before .loop .inv .long
-
-returns : tie.Need-returns Inv-loop μ-loop
-returns c = coding-done _ _ _ _ _ _ _ _ (c .before .loop .inv) (c .loop-test .left)
+returns : tie.Need-returns
+returns c = coded-both _ _ _ _ _ _ _ _ _ (omega arith) (omega arith) (c .before .before .before .before .before .before .code-on .ensures .1) (c .before .before .code-on2 .ensures .1)
 
 pub code-spec : {M : Type 1} → statement M
 code-spec =
     tie.close
-    (tie.spec
-    Inv-loop
-    μ-loop
-    add-s
-    loop-holds
-    add-loop
-    input-bit-requires
-    shifted-from-requires
-    register-after-requires
-    put-pair-requires
-    add-t
-    loop-less
-    loop-again
-    same-length
-    returns)
+    (tie.spec code-on-requires add-code-on add-code-on-2 code-on-requires-2 same-length returns)

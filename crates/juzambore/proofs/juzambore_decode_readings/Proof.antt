@@ -4,6 +4,9 @@ use borrow.Author.Needs.{needs}
 use Rattle.juzambore.proofs.juzambore_decode_readings.Statement.{statement}
 use Rattle.juzambore.proofs.juzambore_decode_readings.Tie as tie
 
+kind-of-requires : tie.Need-kind-of-requires
+kind-of-requires c κs = search needs
+
 decode-readings-requires : tie.Need-decode-readings-requires
 decode-readings-requires c κs = search needs
 
@@ -17,8 +20,8 @@ same-length-2 : tie.Need-same-length-2
 same-length-2 c = search needs
 
 returns : tie.Need-returns
-returns c = (rw (c .flag .ensures .1) (c .before .before .before .before .before .decode-readings .ensures), c .flag .ensures .0)
+returns c = (rw (← c .before .before .before .before .before .before .before .before .kind-of .ensures, c .flag .ensures .1) (c .before .before .before .before .before .decode-readings .ensures), c .flag .ensures .0)
 
 pub juzambore-decode-readings-spec : {M : Type 1} → statement M
 juzambore-decode-readings-spec =
-    tie.close (tie.spec decode-readings-requires flag-requires same-length same-length-2 returns)
+    tie.close (tie.spec kind-of-requires decode-readings-requires flag-requires same-length same-length-2 returns)

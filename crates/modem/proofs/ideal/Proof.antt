@@ -27,7 +27,7 @@ abbrev entry : tie.After-train-of → tie.Start
 entry c = c .before .before .before .before
 
 known : (c : tie.After-train-of) → SizedPassed (list (entry c)) (c .train-of .result)
-known c = sized-passed _ _ _ _ (sym (c .before .before .sized-refusal .ensures) ∙ c .before .if1 .left) (c .train-of .ensures)
+known c = sized-passed _ _ _ _ _ (sym (c .before .before .sized-refusal .ensures) ∙ c .before .if1 .left) (c .train-of .ensures)
 
 counted : (c : tie.After-counts-of) → Tallied (list (entry (c .before))) (c .counts-of .result .n) (c .counts-of .result .symbols) (c .counts-of .result .sent)
 counted c = tallied _ _ _ _ _ (known (c .before) .list-is) (c .counts-of .ensures)
@@ -36,7 +36,7 @@ counted c = tallied _ _ _ _ _ (known (c .before) .list-is) (c .counts-of .ensure
 late : (c : tie.After-lent-refusal)
     → c .lent-refusal .result
     ≡ ladder
-    (lent
+    (lent 9
     (not (eqb (length (entry (c .before .before .before .before .before .before) .args .sent .now)) (sentOf (list (entry (c .before .before .before .before .before .before))))))
     (ltb (length (entry (c .before .before .before .before .before .before) .args .i .now)) (carriersOf (list (entry (c .before .before .before .before .before .before)))) || ltb (length (entry (c .before .before .before .before .before .before) .args .q .now)) (carriersOf (list (entry (c .before .before .before .before .before .before)))))
     (not (allBits (entry (c .before .before .before .before .before .before) .args .sent .now))))
@@ -49,7 +49,7 @@ sized-refusal-requires c κs = search needs
 
 returns : tie.Need-returns
 unfolding Ideal idealRefusal
-returns c = described-refused _ _ _ _ _ _ _ (c .before .sized-refusal .ensures) (c .if1 .taken)
+returns c = described-refused _ _ _ _ _ _ _ _ (c .before .sized-refusal .ensures) (c .if1 .taken)
 
 train-of-requires : tie.Need-train-of-requires
 train-of-requires c κs = list-fit _ (sym (c .before .sized-refusal .ensures) ∙ c .if1 .left)
@@ -71,13 +71,13 @@ lent-refusal-requires c κs = search needs
 
 returns-2 : tie.Need-returns-2
 unfolding Ideal idealRefusal
-returns-2 c = lent-refused _ _ _ _ _ _ (known (c .before .before .before .before .before .before .before) .zero) _ (late (c .before)) (c .if2 .taken)
+returns-2 c = lent-refused _ _ _ _ _ _ _ (known (c .before .before .before .before .before .before .before) .zero) _ (late (c .before)) (c .if2 .taken)
 
 read-train-requires : tie.Need-read-train-requires
 read-train-requires c κs =
     let at = c .before .before .before .before .before .before .before .before .before in
     let same = known at .list-is in
-    let (wrong, short, _) = lent-passed _ _ _ (sym (late (c .before .before .before)) ∙ c .before .before .if2 .left) in
+    let (wrong, short, _) = lent-passed 8 _ _ _ (sym (late (c .before .before .before)) ∙ c .before .before .if2 .left) in
     let all = list (entry at) in
     let (on-i, on-q) = enough-room (length (entry at .args .i .now)) (length (entry at .args .q .now)) (carriersOf all) (carriersOf all) short in (
       (known at .made, omega (arith, eqb-true (length (entry at .args .sent .now)) (sentOf all) (not-false _ wrong), ap sentOf same)),
@@ -94,7 +94,7 @@ returns-3 : tie.Need-returns-3
 unfolding Ideal idealRefusal
 returns-3 c =
     let at = c .before .before .before .before .before .before .before .before .before .before .before .before in
-    all-done _ _ _ _ _ _ (known at .zero) (sym (late (c .before .before .before .before .before .before)) ∙ c .before .before .before .before .before .if2 .left) _
+    all-done _ _ _ _ _ _ _ (known at .zero) (sym (late (c .before .before .before .before .before .before)) ∙ c .before .before .before .before .before .if2 .left) _
     (passed-read _ _ (known at) _ _ _ _ _ (c .before .before .read-train .ensures))
 
 pub ideal-spec : {M : Type 1} → statement M

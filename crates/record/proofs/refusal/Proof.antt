@@ -6,6 +6,7 @@ use borrow.Author.Tests.{lt-ltb, le-ltb}
 use Rattle.laws.specs.Ladder.{ladder}
 use Rattle.laws.specs.Lists.{tabulate}
 use Rattle.modes.specs.Pdus.{pdusOf}
+use Rattle.modes.specs.Refusals.{encodeDescribed}
 use Rattle.modes.proofs.RefusalLaws.{one-described}
 use Rattle.record.specs.Record.{lineRefusal}
 use Rattle.record.proofs.refusal.Statement.{statement}
@@ -33,7 +34,7 @@ refusal-requires : tie.Need-refusal-requires
 refusal-requires c κs = search needs
 
 returns-5 : tie.Need-returns-5
-unfolding lineRefusal ladder pdusOf tabulate
+unfolding lineRefusal ladder pdusOf tabulate encodeDescribed
 returns-5 c =
     simp
     (le-ltb _ _ (c .before .before .before .before .before .before .if1 .left), le-ltb _ _ (c .before .before .before .before .before .if2 .left), le-ltb _ _ (c .before .before .before .before .if3 .left), le-ltb _ _ (c .before .before .before .if4 .left))

@@ -64,7 +64,7 @@ part-ideal-end c =
     let coded = c .before .before .before .before .before .before in
     let sized = coded .before .before .before .before .before in
     let start = entry (sized .before .before) in
-    omega (arith, coded .encode .kept .1 .1 .1 .1 .1 .1 .0, coded .before .before .before .before .sent-room .ensures, counted (sized .before), few-sent _ _ _ _ (start .pre .0) (start .pre .1))
+    omega (arith, coded .encode .kept .1 .1 .1 .1 .1 .1 .1 .0, coded .before .before .before .before .sent-room .ensures, counted (sized .before), few-sent _ _ _ _ (start .pre .0) (start .pre .1))
 
 slice-aggregate-ideal : tie.Need-slice-aggregate-ideal
 slice-aggregate-ideal c = search needs

@@ -1,5 +1,6 @@
-//! Table 1, lists of PDUs, and the refusals of a description: 11 and 1 to 6.
+//! Table 1, lists of PDUs, and the refusals of a description: 11, 1 to 6, and 12 of a BCH.
 use super::unless;
+use juzambore::Kind;
 
 #[derive(Clone, Copy, PartialEq)]
 pub enum Rate {
@@ -61,11 +62,13 @@ impl Pdu {
 }
 
 impl Size {
-    /// The train's counts or the first refusal. A call without a counter or an a gives none.
+    /// The train's counts or the first refusal. A call without a counter or an a gives none, and where it has no kind it
+    /// asks as for data.
     pub fn of(
-        count: u32, modes: &[u32; 16], lengths: &[u32; 16], counter: Option<u32>, a: Option<u32>,
+        kind: Kind, count: u32, modes: &[u32; 16], lengths: &[u32; 16], counter: Option<u32>, a: Option<u32>,
     ) -> Result<Size, u32> {
         unless(11, (1..=16).contains(&count))?;
+        let is_bch = (count, modes[0], lengths[0], a) == (1, 1, 120, Some(0));
         let listed = 0..count as usize;
         let modes = modes[listed.clone()].iter().map(|&number| mode_of(number)).collect::<Result<Vec<_>, u32>>()?;
         unless(2, !counter.is_some_and(|counter| counter > 15))?;
@@ -73,6 +76,7 @@ impl Size {
         let size = Size::sum(pdus);
         unless(3, size.n <= 3456)?;
         unless(6, !a.is_some_and(|a| a as usize > size.n - 72))?;
+        unless(12, kind == Kind::Data || is_bch)?;
         Ok(size)
     }
 

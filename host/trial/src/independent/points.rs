@@ -1,4 +1,5 @@
 //! Levels, points and soft bytes.
+use super::sending::value_of;
 
 /// Table 5: the level of one axis for its bits, the earliest the highest. With no bits it is 0.
 fn level(bits: usize, value: usize) -> i16 {
@@ -18,14 +19,10 @@ fn split(carrier: usize) -> [usize; 2] {
     }
 }
 
-fn value_of(bits: &[u8]) -> usize {
-    bits.iter().fold(0, |value, &bit| 2 * value + usize::from(bit))
-}
-
 /// I and Q of one carrier's bits.
 fn levels(group: &[u8]) -> [i16; 2] {
     let [of_i, of_q] = split(group.len());
-    [level(of_i, value_of(&group[..of_i])), level(of_q, value_of(&group[of_i..]))]
+    [level(of_i, value_of(&group[..of_i]) as usize), level(of_q, value_of(&group[of_i..]) as usize)]
 }
 
 /// The transmitter's point: each level times K by one f32 multiplication.

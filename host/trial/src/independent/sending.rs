@@ -1,13 +1,19 @@
 //! From octets to sent bits, stage by stage. Bits are 0 and 1, one to an entry.
 use super::modes::{Mode, Pdu, Rate};
+use juzambore::Kind;
 
 /// Most significant bit first.
 pub fn bits_of(octets: &[u8]) -> Vec<u8> {
     octets.iter().flat_map(|octet| (0..8).rev().map(move |k| octet >> k & 1)).collect()
 }
 
+/// The number that bits write, the earliest the highest.
+pub fn value_of(bits: &[u8]) -> u32 {
+    bits.iter().fold(0, |value, &bit| 2 * value + u32::from(bit))
+}
+
 pub fn octets_of(bits: &[u8]) -> Vec<u8> {
-    bits.chunks(8).map(|eight| eight.iter().fold(0, |octet, bit| 2 * octet + bit)).collect()
+    bits.chunks(8).map(|eight| value_of(eight) as u8).collect()
 }
 
 /// Clause 5.2. `stage[k]` is stage k + 1; stages 7 to 1 start as 1 1 1 n4 n3 n2 n1. Descrambling is the same.
@@ -21,6 +27,18 @@ pub fn scrambled(bits: &[u8], counter: u32) -> Vec<u8> {
         out.push(bit ^ feedback);
     }
     out
+}
+
+/// The counter that the first four bits of a BCH are, n4 first.
+pub fn counter_of(bits: &[u8]) -> u32 {
+    value_of(&bits[..4])
+}
+
+/// A train's bits as they enter the encoder: those of a BCH are scrambled from the fifth on. From there and back is the
+/// same.
+pub fn entering(kind: Kind, bits: &[u8], counter: u32) -> Vec<u8> {
+    let (clear, rest) = bits.split_at(if kind == Kind::Bch { 4 } else { 0 });
+    [clear, &scrambled(rest, counter)].concat()
 }
 
 /// The lags of X and of Y.
@@ -91,8 +109,8 @@ pub fn in_sent_order<T: Copy>(pdus: &[Pdu], a: usize, pairs: &[[T; 2]]) -> Vec<T
 }
 
 /// The train is scrambled, tailed and coded once.
-pub fn sent_bits(pdus: &[Pdu], counter: u32, a: usize, octets: &[u8]) -> Vec<u8> {
-    let mut inputs = scrambled(&bits_of(octets), counter);
+pub fn sent_bits(kind: Kind, pdus: &[Pdu], counter: u32, a: usize, octets: &[u8]) -> Vec<u8> {
+    let mut inputs = entering(kind, &bits_of(octets), counter);
     inputs.extend([0; 6]);
     in_sent_order(pdus, a, &coded(&inputs))
 }

@@ -1,9 +1,10 @@
-//! Document 01's own examples, lists of PDUs, and search and mark of short trains against all trains.
+//! Document 01's own examples, lists of PDUs, BCH, and search and mark of short trains against all trains.
 use super::modes::{Size, MODES};
 use super::{points, search, sending};
 use crate::description::Description;
-use crate::ladder::{rungs, Rung};
+use crate::ladder::{bch_rungs, rungs, BchRung, Rung};
 use crate::random::Random;
+use juzambore::Kind;
 
 fn text(bits: &[u8]) -> String {
     bits.iter().map(|bit| bit.to_string()).collect()
@@ -13,6 +14,23 @@ fn text(bits: &[u8]) -> String {
 fn scrambler_example() {
     let scrambled = sending::scrambled(&[1, 0, 0, 1, 1, 1, 0, 1, 0, 0, 0], 0b0100);
     assert_eq!(text(&scrambled), "00111110011");
+}
+
+/// The same example behind a counter, and back by the counter that stands there.
+#[test]
+fn bch_example() {
+    let bits = [0, 1, 0, 0, 1, 0, 0, 1, 1, 1, 0, 1];
+    let inputs = sending::entering(Kind::Bch, &bits, 0b0100);
+    assert_eq!(text(&inputs), "010000111110");
+    assert_eq!(sending::entering(Kind::Bch, &inputs, sending::counter_of(&inputs)), bits);
+}
+
+/// n4 comes first.
+#[test]
+fn counters() {
+    for (bits, counter) in [([0, 0, 0, 1], 1), ([1, 0, 0, 0], 8), ([0, 1, 1, 1], 7), ([1, 1, 0, 1], 13)] {
+        assert_eq!(sending::counter_of(&bits), counter);
+    }
 }
 
 #[test]
@@ -45,17 +63,23 @@ fn soft_bytes() {
 #[test]
 fn ladder() {
     for Rung { train, refusal, without_place } in rungs() {
-        let Description { count, modes, lengths, counter, a } = train;
-        let told = |counter, a| Size::of(count, &modes, &lengths, counter, a).err().unwrap_or(7);
-        assert_eq!(told(Some(counter), Some(a)), refusal, "{train:?}");
-        assert_eq!(told(None, None), without_place, "{train:?} without counter and a");
+        assert_eq!(refused(&train, Some(train.counter), Some(train.a)), refusal, "{train:?}");
+        assert_eq!(refused(&train, None, None), without_place, "{train:?} without counter and a");
     }
+    for BchRung { train, encode, decode } in bch_rungs() {
+        assert_eq!(refused(&train, Some(train.counter), Some(train.a)), encode, "encoding {train:?}");
+        assert_eq!(refused(&train, None, Some(train.a)), decode, "decoding {train:?}");
+    }
+}
+
+fn refused(train: &Description, counter: Option<u32>, a: Option<u32>) -> u32 {
+    Size::of(train.kind, train.count, &train.modes, &train.lengths, counter, a).err().unwrap_or(7)
 }
 
 /// The sent bits of a train of these PDUs, its octets all alike.
 fn sent_bits(pdus: &[(u32, u32)], a: u32) -> Vec<u8> {
     let size = Description::of(pdus, 4, a).size();
-    sending::sent_bits(&size.pdus, 4, a as usize, &vec![0x9d; size.n / 8])
+    sending::sent_bits(Kind::Data, &size.pdus, 4, a as usize, &vec![0x9d; size.n / 8])
 }
 
 /// A symbol is a whole number of P2's periods, so that a train may be cut into PDUs of one mode without a change.

@@ -8,16 +8,16 @@ use Rattle.coder.proofs.octets.descramble.Statement.{statement}
 use Rattle.coder.proofs.octets.descramble.Tie as tie
 
 abbrev Inv-loop : tie.InvT-loop
-Inv-loop counter n train octets₀ s₀ k₀ octets s k = (k ≤ n / 8) × (Descrambling counter train octets₀ octets s k)
+Inv-loop first counter n train octets₀ s₀ k₀ octets s k = (k ≤ n / 8) × (Descrambling first counter train octets₀ octets s k)
 
 abbrev μ-loop : tie.MeasureT-loop
-μ-loop counter n train octets₀ s₀ k₀ octets s k = n / 8 - k
+μ-loop first counter n train octets₀ s₀ k₀ octets s k = n / 8 - k
 
 add-s : tie.Need-add-s Inv-loop μ-loop
 add-s c = omega arith
 
 loop-holds : tie.Need-loop-holds Inv-loop μ-loop
-loop-holds c = (omega arith, descrambling-none _ _ _ (omega arith))
+loop-holds c = (omega arith, descrambling-none _ _ _ _ (omega arith))
 
 octet-of-requires : tie.Need-octet-of-requires Inv-loop μ-loop
 octet-of-requires c κs =
@@ -34,7 +34,7 @@ loop-less : tie.Need-loop-less Inv-loop μ-loop
 loop-less c = omega arith
 
 loop-again : tie.Need-loop-again Inv-loop μ-loop
-loop-again c = (omega arith, descrambling-again _ _ _ _ _ _ _ _ (c .before .before .loop .inv .1) (omega arith) (c .octet-of .ensures))
+loop-again c = (omega arith, descrambling-again _ _ _ _ _ _ _ _ _ (c .before .before .loop .inv .1) (omega arith) (c .octet-of .ensures))
 
 same-length : tie.Need-same-length Inv-loop μ-loop
 same-length c = c .before .loop .inv .1 .long

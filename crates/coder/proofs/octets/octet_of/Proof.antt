@@ -10,22 +10,25 @@ use Rattle.coder.proofs.octets.octet_of.Statement.{statement}
 use Rattle.coder.proofs.octets.octet_of.Tie as tie
 
 abbrev Inv-loop : tie.InvT-loop
-Inv-loop counter train k s state₀ octet₀ j₀ state octet j = Writing counter train k octet state j
+Inv-loop first counter train k s state₀ octet₀ j₀ state octet j = Writing first counter train k octet state j
 
 abbrev μ-loop : tie.MeasureT-loop
-μ-loop counter train k s state₀ octet₀ j₀ state octet j = 8 - j
+μ-loop first counter train k s state₀ octet₀ j₀ state octet j = 8 - j
 
 loop-holds : tie.Need-loop-holds Inv-loop μ-loop
-loop-holds c = writing-none _ _ _ _ (c .before .pre .1) (omega arith)
+loop-holds c = writing-none _ _ _ _ _ (c .before .pre .1) (omega arith)
+
+mul-t : tie.Need-mul-t Inv-loop μ-loop
+mul-t c = omega arith
+
+add-t : tie.Need-add-t Inv-loop μ-loop
+add-t c = omega arith
+
+step-of-requires : tie.Need-step-of-requires Inv-loop μ-loop
+step-of-requires c κs = c .before .loop .inv .seven-stages
 
 mul-octet : tie.Need-mul-octet Inv-loop μ-loop
 mul-octet c = omega arith
-
-mul-wide : tie.Need-mul-wide Inv-loop μ-loop
-mul-wide c = omega arith
-
-add-wide : tie.Need-add-wide Inv-loop μ-loop
-add-wide c = omega arith
 
 shared-slice-read-wide : tie.Need-shared-slice-read-wide Inv-loop μ-loop
 shared-slice-read-wide c = omega arith
@@ -33,20 +36,14 @@ shared-slice-read-wide c = omega arith
 wide-requires : tie.Need-wide-requires Inv-loop μ-loop
 wide-requires c κs = search needs
 
-output-of-requires : tie.Need-output-of-requires Inv-loop μ-loop
-output-of-requires c κs = search needs
-
 add-octet : tie.Need-add-octet Inv-loop μ-loop
 add-octet c =
-    let at = c .before .before .before .before in
+    let at = c .before .before .before .before .before in
     let start = at .before .before in
-    omega (arith, c .before .wide .ensures, c .before .before .shared-slice-known2 .given (8 * start .args .k + at .loop .j) .fits)
+    omega (arith, c .before .wide .ensures, c .before .before .before .step-of .ensures .mask-low, c .before .before .shared-slice-known2 .given (8 * start .args .k + at .loop .j) .fits)
 
 add-octet-2 : tie.Need-add-octet-2 Inv-loop μ-loop
 add-octet-2 c = omega arith
-
-shifted-from-requires : tie.Need-shifted-from-requires Inv-loop μ-loop
-shifted-from-requires c κs = c .before .before .before .before .loop .inv .seven-stages
 
 add-j : tie.Need-add-j Inv-loop μ-loop
 add-j c = omega arith
@@ -57,11 +54,10 @@ loop-less c = omega arith
 loop-again : tie.Need-loop-again Inv-loop μ-loop
 loop-again c =
     let at = c .before .before .before .before .before in
-    rw (c .before .before .wide .ensures, c .before .output-of .ensures .0)
-    (writing-again _ _ _ _ _ _ _ (at .loop .inv) (omega arith) (c .shifted-from .ensures))
+    rw (c .before .wide .ensures) (writing-again _ _ _ _ _ _ _ _ _ (at .loop .inv) (omega arith) (c .before .before .before .step-of .ensures))
 
-cast-t18 : tie.Need-cast-t18 Inv-loop μ-loop
-cast-t18 c = omega arith
+cast-t19 : tie.Need-cast-t19 Inv-loop μ-loop
+cast-t19 c = omega arith
 
 returns : tie.Need-returns Inv-loop μ-loop
 returns c =
@@ -78,17 +74,16 @@ octet-of-spec =
     Inv-loop
     μ-loop
     loop-holds
+    mul-t
+    add-t
+    step-of-requires
     mul-octet
-    mul-wide
-    add-wide
     shared-slice-read-wide
     wide-requires
-    output-of-requires
     add-octet
     add-octet-2
-    shifted-from-requires
     add-j
     loop-less
     loop-again
-    cast-t18
+    cast-t19
     returns)

@@ -29,7 +29,7 @@ pick-requires c κs =
     let start = c .before .before .before .before .before .before .before .before .before in
     let legal = start .pre .0 .0 in
     let most = legal .fit .to-3456 in (
-      (legal .to-15, omega (arith, start .pre .0 .1, most), rw (start .pre .0 .1) (octets-whole _ (legal .fit .each))),
+      (legal .to-15, omega (arith, start .pre .0 .1, legal .inside), omega (arith, start .pre .0 .1, most), rw (start .pre .0 .1) (octets-whole _ (legal .fit .each))),
       (omega (arith, start .pre .0 .1, most, c .before .before .before .before .before .before .coded-room .ensures .0, c .before .before .before .before .spread-train .kept .1 .1 .0), start .pre .1 .1 .0, start .pre .1 .1 .1),
     )
 

@@ -26,7 +26,7 @@ abbrev entry : tie.After-train-of → tie.Start
 entry c = c .before .before .before
 
 known : (c : tie.After-train-of) → SizedPassed (list (entry c)) (c .train-of .result)
-known c = sized-passed _ _ _ _ (sym (c .before .before .sized-refusal .ensures) ∙ c .before .if1 .left) (c .train-of .ensures)
+known c = sized-passed _ _ _ _ _ (sym (c .before .before .sized-refusal .ensures) ∙ c .before .if1 .left) (c .train-of .ensures)
 
 counted : (c : tie.After-counts-of) → Tallied (list (entry (c .before))) (c .counts-of .result .n) (c .counts-of .result .symbols) (c .counts-of .result .sent)
 counted c = tallied _ _ _ _ _ (known (c .before) .list-is) (c .counts-of .ensures)
@@ -35,7 +35,7 @@ counted c = tallied _ _ _ _ _ (known (c .before) .list-is) (c .counts-of .ensure
 late : (c : tie.After-lent-refusal)
     → c .lent-refusal .result
     ≡ ladder
-    (lent
+    (lent 9
     (readingsWrong (carriersOf (list (entry (c .before .before .before .before .before)))) (entry (c .before .before .before .before .before) .args .i .now) (entry (c .before .before .before .before .before) .args .q .now))
     (ltb (length (entry (c .before .before .before .before .before) .args .soft .now)) (sentOf (list (entry (c .before .before .before .before .before)))))
     false)
@@ -48,7 +48,7 @@ sized-refusal-requires c κs = search needs
 
 returns : tie.Need-returns
 unfolding Soften softenRefusal
-returns c = described-refused _ _ _ _ _ _ _ (c .before .sized-refusal .ensures) (c .if1 .taken)
+returns c = described-refused _ _ _ _ _ _ _ _ (c .before .sized-refusal .ensures) (c .if1 .taken)
 
 train-of-requires : tie.Need-train-of-requires
 train-of-requires c κs = list-fit _ (sym (c .before .sized-refusal .ensures) ∙ c .if1 .left)
@@ -67,13 +67,13 @@ lent-refusal-requires c κs = search needs
 
 returns-2 : tie.Need-returns-2
 unfolding Soften softenRefusal
-returns-2 c = lent-refused _ _ _ _ _ _ (known (c .before .before .before .before .before .before) .zero) _ (late (c .before)) (c .if2 .taken)
+returns-2 c = lent-refused _ _ _ _ _ _ _ (known (c .before .before .before .before .before .before) .zero) _ (late (c .before)) (c .if2 .taken)
 
 soften-train-requires : tie.Need-soften-train-requires
 soften-train-requires c κs =
     let at = c .before .before .before .before .before .before .before in
     let same = known at .list-is in
-    let (wrong, short, _) = lent-passed _ _ _ (sym (late (c .before .before)) ∙ c .before .if2 .left) in
+    let (wrong, short, _) = lent-passed 8 _ _ _ (sym (late (c .before .before)) ∙ c .before .if2 .left) in
     let (on-i, on-q) = right-counts (length (entry at .args .i .now)) (length (entry at .args .q .now)) (carriersOf (list (entry at))) wrong in (
       (known at .made, omega (arith, ltb-false (length (entry at .args .soft .now)) (sentOf (list (entry at))) short, ap sentOf same)),
       (omega (arith, on-i, ap carriersOf same), omega (arith, on-q, ap carriersOf same)),
@@ -86,7 +86,7 @@ returns-3 : tie.Need-returns-3
 unfolding Soften softenRefusal
 returns-3 c =
     let at = c .before .before .before .before .before .before .before .before .before in
-    all-done _ _ _ _ _ _ (known at .zero) (sym (late (c .before .before .before .before)) ∙ c .before .before .before .if2 .left) _
+    all-done _ _ _ _ _ _ _ (known at .zero) (sym (late (c .before .before .before .before)) ∙ c .before .before .before .if2 .left) _
     (passed-softened _ _ (known at) _ _ _ _ (c .before .soften-train .ensures))
 
 pub soften-spec : {M : Type 1} → statement M

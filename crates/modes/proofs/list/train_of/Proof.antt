@@ -10,10 +10,10 @@ use Rattle.modes.proofs.list.train_of.Statement.{statement}
 use Rattle.modes.proofs.list.train_of.Tie as tie
 
 abbrev Inv-loop : tie.InvT-loop
-Inv-loop count modes lengths counter a count' pdus₀ k₀ pdus k = (k ≤ count) × Put modes lengths k pdus
+Inv-loop kind count modes lengths counter a count' pdus₀ k₀ pdus k = (k ≤ count) × Put modes lengths k pdus
 
 abbrev μ-loop : tie.MeasureT-loop
-μ-loop count modes lengths counter a count' pdus₀ k₀ pdus k = count - k
+μ-loop kind count modes lengths counter a count' pdus₀ k₀ pdus k = count - k
 
 -- a fit list has 16 PDUs at most
 few : (c : tie.Start Inv-loop μ-loop) → c .args .count ≤ 16
@@ -59,7 +59,7 @@ loop-again c =
 returns : tie.Need-returns Inv-loop μ-loop
 returns c =
     let done : c .before .loop .k ≡ c .before .before .before .args .count = omega arith in
-    put-all _ _ _ _ _ _ (c .before .before .before .pre) (rw done at (c .before .loop .inv .1))
+    put-all _ _ _ _ _ _ _ (c .before .before .before .pre) (rw done at (c .before .loop .inv .1))
 
 pub train-of-spec : {M : Type 1} → statement M
 train-of-spec =

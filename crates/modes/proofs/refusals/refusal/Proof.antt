@@ -1,12 +1,13 @@
--- `modes::refusals::refusal` is the ladder of refusals 11 and 1 to 6.
+-- `modes::refusals::refusal` is the ladder of refusals 11, 1 to 6 and 12.
 -- Assumes nothing.
 use mathlib.Core.Path.{_≡_, sym, _∙_}
 use borrow.Author.Needs.{needs}
 use Rattle.laws.specs.Ladder.{ladder}
 use Rattle.modes.specs.Pdus.{pdusOf}
 use Rattle.modes.specs.Refusals.{listTests}
-use Rattle.modes.proofs.TestLaws.{list-count, list-modes}
-use Rattle.modes.proofs.RefusalLaws.{described-list, described-rest}
+use Rattle.modes.proofs.PduLaws.{pdusOf-length}
+use Rattle.modes.proofs.TestLaws.{list-count, list-modes, list-first}
+use Rattle.modes.proofs.KindLaws.{encode-list, encode-rest}
 use Rattle.modes.proofs.refusals.refusal.Statement.{statement}
 use Rattle.modes.proofs.refusals.refusal.Tie as tie
 
@@ -18,7 +19,7 @@ list-refusal-requires : tie.Need-list-refusal-requires
 list-refusal-requires c κs = search needs
 
 returns : tie.Need-returns
-returns c = described-list _ _ _ _ (c .before .list-refusal .ensures _) (c .if1 .taken)
+returns c = encode-list _ _ _ _ _ (c .before .list-refusal .ensures _) (c .if1 .taken)
 
 lengths-refusal-requires : tie.Need-lengths-refusal-requires
 lengths-refusal-requires c κs = (list-count _ _ _ (listed c), list-modes _ _ _ (listed c))
@@ -32,15 +33,31 @@ sum-outside-requires c κs = search needs
 place-above-requires : tie.Need-place-above-requires
 place-above-requires c κs = search needs
 
+element-copy-out-other-than : tie.Need-element-copy-out-other-than
+element-copy-out-other-than c = search needs
+
+other-than-requires : tie.Need-other-than-requires
+other-than-requires c κs = search needs
+
 first-refusal-requires : tie.Need-first-refusal-requires
 first-refusal-requires c κs = search needs
 
 returns-2 : tie.Need-returns-2
 returns-2 c =
-    let measured = c .before .before .before .before in
+    let measured = c .before .before .before .before .before .before in
     let at = measured .before in
-    let sum = c .before .before .before .total-length .ensures (at .before .before .args .modes .now) in
-    rw (← described-rest _ _ _ (listed at), ← sum, ← measured .lengths-refusal .ensures, ← c .before .before .sum-outside .ensures, ← c .before .place-above .ensures)
+    let args = at .before .before .args in
+    let sum = c .before .before .before .before .before .total-length .ensures (args .modes .now) in
+    rw (
+      ← encode-rest _ _ _ _ (listed at),
+      pdusOf-length (args .count) (args .modes .now) (args .lengths .now),
+      list-first _ _ _ (listed at),
+      ← sum,
+      ← measured .lengths-refusal .ensures,
+      ← c .before .before .before .before .sum-outside .ensures,
+      ← c .before .before .before .place-above .ensures,
+      ← c .before .other-than .ensures,
+    )
     (c .first-refusal .ensures)
 
 pub refusal-spec : {M : Type 1} → statement M
@@ -53,5 +70,7 @@ refusal-spec =
     total-length-requires
     sum-outside-requires
     place-above-requires
+    element-copy-out-other-than
+    other-than-requires
     first-refusal-requires
     returns-2)
