@@ -48,6 +48,10 @@ cargo_does run --release --example roundtrip
 cargo_does build --release --package trial
 trial=$work/built/$target/release/trial
 
+say "the interleaver's sheet: the stored one and the source's entries against the rule"
+python3 host/sheet.py | diff - crates/sheet/stdout
+python3 host/sheet.py table | diff - <(grep '^ *[0-9]' crates/places/src/sheet.rt)
+
 say "recorded calls; the trains are of host/reference.py"
 python3 host/reference.py trains 200 > "$work/trains"
 $emulator "$trial" vectors host/vectors/encode.txt host/vectors/decode.txt "$work/trains"
@@ -63,13 +67,16 @@ one_call() {
     echo $(($(counted "$trial" run "$@" 1) - $(counted "$trial" run "$@" 0)))
 }
 
-for mode in 1 2 3 4 5 6 7 mixed; do
+modes="1 2 3 4 5 6 7 mixed"
+for mode in $modes; do
     echo "encode $mode $(one_call proved encode $mode) $(one_call ordinary encode $mode) 0"
 done > "$work/counts"
-for mode in 1 2 3 4 5 6 7 mixed; do
+for mode in $modes; do echo "soften $mode $(one_call proved soften $mode) 0 0"; done >> "$work/counts"
+for mode in $modes; do
     echo "decode $mode $(one_call proved decode $mode) $(one_call ordinary decode $mode) $(one_call shape decode $mode)"
 done >> "$work/counts"
 passes=$(one_call proved passes 6)
+sent=$(for mode in $modes; do $emulator "$trial" sent $mode; done | xargs)
 $emulator "$trial" mixed > "$work/mixed"
 if [ -z "$emulator" ]; then "$trial" times; else sed 's/ .*/ 0 0 0 0/' "$work/counts"; fi > "$work/times"
 
@@ -82,7 +89,8 @@ parts() {
 
 # The first file has the PDUs of the mixed train. Its parts also cost what trains of N bits in their modes do, by the
 # share that each has of the N bits.
-paste -d ' ' "$work/counts" "$work/times" | awk -v passes="$passes" -v encodes="$(parts encode)" -v decodes="$(parts decode)" '
+paste -d ' ' "$work/counts" "$work/times" | awk -v passes="$passes" -v encodes="$(parts encode)" \
+    -v decodes="$(parts decode)" -v names="$modes" -v sent="$sent" '
     BEGIN {
         row = "%-6s %5s %9s %9s %10s %10s %10s %10s %9s %10s %10s %10s\n"
         printf "\n%-12s %30s %21s %31s %21s\n", "N = 3456", "instructions of a call", "ours over theirs",
@@ -100,7 +108,8 @@ paste -d ' ' "$work/counts" "$work/times" | awk -v passes="$passes" -v encodes="
         printf row, $1, $2, some($3), some($4), some($5), over($3, $4), over($3, $5), some($8), some($9), some($10),
             over($8, $9), over($8, $10)
         if ($1 == "decode" && $2 == 6) whole = $3
-        if ($2 == "mixed") {
+        cost[$1, $2] = $3
+        if ($2 == "mixed" && $1 != "soften") {
             mixed = mixed sprintf(", %s %s (ordinary %s)", $1, over($3, proved[$1]), over($4, ordinary[$1]))
             alone = alone sprintf(", %s %s", $1, over($3, $1 == "encode" ? encodes : decodes))
         }
@@ -113,6 +122,13 @@ paste -d ' ' "$work/counts" "$work/times" | awk -v passes="$passes" -v encodes="
             outside <= 0.25 ? "held" : "NOT HELD"
         printf "instructions of the mixed train of 16 PDUs over those of its parts, each as a train of its own%s\n", alone
         printf "and over those of its parts by their share of trains of N bits%s\n", mixed
+        printf "\ninstructions per sent bit; of a decode what lies outside search and mark, which is mostly the spreading\n"
+        printf "%6s %9s %7s %7s %9s\n", "mode", "sent bits", "encode", "soften", "spreading"
+        count = split(names, mode)
+        split(sent, bits)
+        for (k = 1; k <= count; k++)
+            printf "%6s %9s %7.2f %7.2f %9.2f\n", mode[k], bits[k], cost["encode", mode[k]] / bits[k],
+                cost["soften", mode[k]] / bits[k], (cost["decode", mode[k]] - passes) / bits[k]
     }' "$work/mixed" -
 if [ -n "$emulator" ]; then echo "times are not measured: the code ran under an emulator"; fi
 

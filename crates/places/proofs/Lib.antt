@@ -3,7 +3,7 @@ pub mod SelectionLaws
 pub mod SymbolLaws
 pub mod TrainLaws
 pub mod OriginLaws
-pub mod StepLaws
+pub mod SheetLaws
 pub mod SendLaws
 pub mod SourceLaws
 pub mod CountedLaws

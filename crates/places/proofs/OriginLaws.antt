@@ -1,6 +1,6 @@
 -- Tables 2 and 3 as the code works them out, and the origin of a bit through P1 and P2 by cases.
 -- Assumes nothing.
-use mathlib.Core.Path.{_≡_}
+use mathlib.Core.Path.{_≡_, refl}
 use Prim.Native.Nat.{ℕ, _+_, _-_, _*_, _/_, _%_, _≤_, _<_}
 use native.Mathlib.Omega.{arith}
 use lib.Dec.{ltb, eqb}
@@ -22,15 +22,15 @@ rule916 r = choose (ltb r 9) r (choose (ltb r 15) (r + 1) 17)
 
 pub p1-kept : (r : ℕ) → r < 24 → getD p1Kept r 0 ≡ choose (ltb r 12) r (choose (eqb (r % 2) 0) (r + 2) r)
 unfolding p1Kept
-p1-kept = table-rule p1Kept p1Rule 24 tt
+p1-kept = table-rule p1Rule p1Kept refl
 
 pub p2-kept-3-4 : (r : ℕ) → r < 4 → getD p2Kept34 r 0 ≡ choose (ltb r 3) r 5
 unfolding p2Kept34
-p2-kept-3-4 = table-rule p2Kept34 rule34 4 tt
+p2-kept-3-4 = table-rule rule34 p2Kept34 refl
 
 pub p2-kept-9-16 : (r : ℕ) → r < 16 → getD p2Kept916 r 0 ≡ choose (ltb r 9) r (choose (ltb r 15) (r + 1) 17)
 unfolding p2Kept916
-p2-kept-9-16 = table-rule p2Kept916 rule916 16 tt
+p2-kept-9-16 = table-rule rule916 p2Kept916 refl
 
 -- before the six periods, in them, and behind them
 pub p1-before : (a p : ℕ) → p < 2 * a → origin (P1 a) p ≡ p

@@ -3,8 +3,10 @@
 // Nothing is refused here: callers have tested what they lend.
 mod interleaver;
 mod puncture;
+mod sheet;
 mod spread;
 
+pub use interleaver::symbol_places;
 use modes::Mode;
 use modes::Rate;
 use modes::Train;

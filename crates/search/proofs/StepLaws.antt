@@ -2,7 +2,7 @@
 -- come two at a time. Assumes nothing.
 use mathlib.Core.Path.{_≡_, refl, sym, ap, ap₂, _∙_}
 use mathlib.Core.Bool.{Bool, true, false}
-use mathlib.Core.List.{List}
+use mathlib.Core.List.{List, []}
 use Prim.Native.Nat.{ℕ, zero, suc, _+_, _-_, _*_, _≤_, _<_}
 use native.Mathlib.Omega.{arith}
 use lib.Bits.{bitAnd, and-zero-r, and-mask}
@@ -12,14 +12,14 @@ use lib.ListN.{length, getD, set, length-set}
 use borrow.Author.Tests.{ltb-true, ltb-false}
 use Rattle.laws.specs.Lists.{choose}
 use Rattle.laws.proofs.ListLaws.{after-set}
-use Rattle.laws.proofs.Tables.{below, below-at, table-rule, both, both-left, both-right}
+use Rattle.laws.proofs.Tables.{below, below-at, strays, table-rule, both, both-left, both-right}
 use Rattle.coder.specs.Register.{parity, maskX, maskY}
 use Rattle.trellis.specs.Passes.{via, before}
 use Rattle.search.specs.Stored.{width, wrapped, gap, lesser, paired, way, gapAt, costAt, Crossed, Small, maskAt, Stored, Turned}
 
 -- a list that is written out
-pub stored-by : (f : ℕ → ℕ) (l : List ℕ) → length l ≡ 64 → T (below (λ s. eqb (getD l s 0) (f s)) 64) → Stored f l
-stored-by f l all test = record { all = all; at = table-rule l f 64 test }
+pub stored-by : (f : ℕ → ℕ) (l : List ℕ) → length l ≡ 64 → strays f 0 l ≡ [] → Stored f l
+stored-by f l all none = record { all = all; at = λ s h. table-rule f l none s (rw all h) }
 
 pub mask-is : (p : ℕ) → p < 2 → wrapped (0 + (width - p)) ≡ choose (eqb p 0) 0 (width - 1)
 mask-is zero h = refl

@@ -5,10 +5,11 @@
 //!                                    PDUs, and a fifth as many more for BCH
 //!     trial agree                    that all agree on the trains of the race
 //!     trial mixed                    the modes and lengths of the race's mixed train
+//!     trial sent MODE                how many bits the race's train of that mode, or `mixed`, sends
 //!     trial run WHO WHAT MODE COUNT  a job COUNT times, to count its instructions: WHO is proved, ordinary or shape (a
-//!                                    decoder with the proved one's shape), WHAT encode or decode; or proved passes,
-//!                                    which is the decoder's search and mark alone; MODE is 1 to 7, mixed, or
-//!                                    one PDU as MODE:LENGTH
+//!                                    decoder with the proved one's shape), WHAT encode or decode; or proved soften;
+//!                                    or proved passes, which is the decoder's search and mark alone; MODE is 1 to 7,
+//!                                    mixed, or one PDU as MODE:LENGTH
 //!     trial times                    nanoseconds of each call in each mode: what, mode, proved, ordinary, shape
 mod calls;
 mod cases;
@@ -47,6 +48,10 @@ fn done(words: &[&str]) -> Option<bool> {
             speed::print_mixed();
             Some(true)
         }
+        ["sent", mode] => {
+            speed::print_sent(mode);
+            Some(true)
+        }
         ["run", who, what, mode, count] => {
             speed::run(who, what, mode, number(count));
             Some(true)
@@ -63,7 +68,7 @@ fn main() {
     let words: Vec<String> = std::env::args().skip(1).collect();
     let words: Vec<&str> = words.iter().map(String::as_str).collect();
     let good = done(&words).unwrap_or_else(|| {
-        eprintln!("trial vectors FILE... | calls [COUNT [SEED]] | agree | mixed | run WHO WHAT MODE COUNT | times");
+        eprintln!("trial vectors FILE... | calls [COUNT [SEED]] | agree | mixed | sent MODE | run WHO WHAT MODE COUNT | times");
         false
     });
     exit(i32::from(!good));

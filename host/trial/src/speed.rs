@@ -47,13 +47,16 @@ fn named(name: &str) -> Description {
     }
 }
 
-/// A train with its noisy soft bytes, and the buffers to lend.
+/// A train with its noisy soft bytes and noisy readings, and the buffers to lend.
 struct Desk {
     train: Description,
     octets: Vec<u8>,
     soft: Vec<i8>,
     heard: Vec<u8>,
+    i: Vec<i16>,
+    q: Vec<i16>,
     sent: Vec<u8>,
+    softened: Vec<i8>,
     found: Vec<u8>,
     words: Vec<u64>,
 }
@@ -72,7 +75,12 @@ impl Desk {
         let described =
             ordinary::described(Kind::Data, *count, modes, lengths, COUNTER, *a).expect("a good description");
         let heard = ordinary::spread(&described, *a as usize, &soft).to_vec();
-        Desk { train, octets, soft, heard, sent, found: vec![0; n], words: vec![0; n + 6] }
+        let mut i = vec![0; 48 * train.size().symbols];
+        let mut q = i.clone();
+        assert_eq!(juzambore::ideal(*count, modes, lengths, &sent, &mut i, &mut q), 0);
+        i.iter_mut().chain(&mut q).for_each(|reading| *reading += random.noise(100) as i16);
+        let softened = vec![0; sent.len()];
+        Desk { train, octets, soft, heard, i, q, sent, softened, found: vec![0; n], words: vec![0; n + 6] }
     }
 
     /// An encode with the buffer cleared first.
@@ -81,6 +89,15 @@ impl Desk {
         self.sent.fill(0);
         let refusal = by(Kind::Data, *count, modes, lengths, COUNTER, *a, &self.octets, &mut self.sent);
         black_box(&self.sent);
+        refusal
+    }
+
+    /// The proved soft bytes of the readings, with the buffer cleared first.
+    fn soften(&mut self) -> u32 {
+        let Description { count, modes, lengths, .. } = black_box(&self.train);
+        self.softened.fill(0);
+        let refusal = juzambore::soften(*count, modes, lengths, &self.i, &self.q, &mut self.softened);
+        black_box(&self.softened);
         refusal
     }
 
@@ -116,6 +133,7 @@ fn job(who: &str, what: &str) -> Option<Job> {
         ("ordinary", "decode") => Some(|desk| desk.decode(ordinary::decode_soft)),
         ("shape", "decode") => Some(|desk| desk.decode(ordinary::decode_in_same_shape)),
         ("proved", "passes") => Some(Desk::passes),
+        ("proved", "soften") => Some(Desk::soften),
         _ => None,
     }
 }
@@ -142,6 +160,11 @@ pub fn agree() -> bool {
     good == fair.len()
 }
 
+/// Prints how many bits of a train are sent.
+pub fn print_sent(name: &str) {
+    println!("{}", named(name).size().sent);
+}
+
 /// Prints the mode and the length of each PDU of the mixed train.
 pub fn print_mixed() {
     MIXED.iter().for_each(|(mode, length)| println!("{mode} {length}"));
@@ -166,7 +189,7 @@ fn time(desks: &mut [Desk], job: Job) -> u64 {
 
 /// Prints for each call and train the least nanoseconds of each racer, taken in turn; 0 for one without the call.
 pub fn times() {
-    for (what, name) in ["encode", "decode"].into_iter().flat_map(|what| NAMES.map(|name| (what, name))) {
+    for (what, name) in ["encode", "soften", "decode"].into_iter().flat_map(|what| NAMES.map(|name| (what, name))) {
         let mut desks: Vec<Desk> = (0..TRAINS).map(|seed| Desk::new(name, seed)).collect();
         let mut least = [u64::MAX; RACERS.len()];
         for _ in 0..ROUNDS {

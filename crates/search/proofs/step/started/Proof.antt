@@ -10,7 +10,7 @@ array-write-costs : tie.Need-array-write-costs
 array-write-costs c = search needs
 
 returns : tie.Need-returns
-returns c = stored-by _ _ refl tt
+returns c = stored-by _ _ refl refl
 
 pub started-spec : {M : Type 1} → statement M
 started-spec = tie.close (tie.spec array-write-costs returns)
