@@ -1,12 +1,15 @@
 #!/usr/bin/env python3
-"""The interleaver's sheet by the rule of ETSI TS 101 475, clause 5.4.
+"""The interleaver's sheet by the rule of ETSI TS 101 475, clause 5.4, which is `place` of host/reference.py.
 
     python3 host/sheet.py          what the program `sheet` is to print: crates/sheet/stdout
     python3 host/sheet.py table    the entries as crates/places/src/sheet.rt has them, sixteen to a line
 """
 import sys
 
-NAMES = {1: "BPSK", 2: "QPSK", 4: "16QAM", 6: "64QAM"}
+from reference import MODES, place
+
+# The symbols of the sheet in its order, each with a mode that has them.
+SYMBOLS = {"BPSK": MODES[1], "QPSK": MODES[3], "16QAM": MODES[5], "64QAM": MODES[7]}
 
 HEAD = """\
 The interleaver of ETSI TS 101 475, clause 5.4. Bit k of a symbol goes to the place below it, which is
@@ -14,34 +17,31 @@ the carrier's bit below that. All are counted from 0, but a carrier's bits are b
 """
 
 
-def place(size, bits_per_carrier, k):
-    """Where bit k of a symbol of `size` bits goes: the clause's two permutations."""
-    s = max(bits_per_carrier // 2, 1)
-    i = (size // 16) * (k % 16) + k // 16
-    return s * (i // s) + (i + size - 16 * i // size) % s
+def rows(mode):
+    """A symbol's bits, sixteen to a row."""
+    return [range(first, first + 16) for first in range(0, mode.sent, 16)]
 
 
-def row(size, b, ks):
-    places = [place(size, b, k) for k in ks]
-    yield "bit", ks
+def lines(mode, bits):
+    places = [place(k, mode) for k in bits]
+    yield "bit", bits
     yield "place", places
-    yield "carrier", [j // b for j in places]
-    yield "its bit", [f"b{j % b + 1}" for j in places]
+    yield "carrier", [j // mode.carrier for j in places]
+    yield "its bit", [f"b{j % mode.carrier + 1}" for j in places]
 
 
 def print_table():
-    for b in NAMES:
-        for first in range(0, 48 * b, 16):
-            print("    " + " ".join(f"{place(48 * b, b, k):3}," for k in range(first, first + 16)))
+    for mode in SYMBOLS.values():
+        for bits in rows(mode):
+            print("    " + " ".join(f"{place(k, mode):3}," for k in bits))
 
 
 def print_sheet():
     print(HEAD)
-    for b, name in NAMES.items():
-        size = 48 * b
-        print(f"{name}: symbols of {size} bits, {b} to a carrier\n")
-        for first in range(0, size, 16):
-            for title, values in row(size, b, range(first, first + 16)):
+    for name, mode in SYMBOLS.items():
+        print(f"{name}: symbols of {mode.sent} bits, {mode.carrier} to a carrier\n")
+        for bits in rows(mode):
+            for title, values in lines(mode, bits):
                 print(f"{title:7}" + "".join(f"{value:>5}" for value in values))
             print()
 
