@@ -1,7 +1,10 @@
 /* Holds the proved search and mark, and the two yardsticks in Rust, against brute force over all trains of at most 12
  * bits and against reference.c on long ones; then tries calls that must be refused.
  *
- *     check SMALL LONG       how many small and how many long cases
+ *     check SMALL LONG DEAR  how many small, how many long and how many dear cases
+ *
+ * Dear ones have soft bytes of one size with random signs, and a cost that sixteen bits do not hold. Of soft bytes of -80
+ * to 80 it is also seen how far apart two reached states lie.
  *
  * Train, cost, mark, words and the rest of every buffer are compared; the exit status is 1 if anything differs. */
 #include "search.h"
@@ -71,6 +74,20 @@ static void try_mark(const struct decoder *d, uint32_t n, const uint8_t *heard, 
     marks++;
 }
 
+/* How far apart two reached states lay where the soft bytes were of -80 to 80. */
+static int64_t search_spread, mark_spread;
+
+static void see_spread(uint32_t n, const uint8_t *heard, const uint8_t *train)
+{
+    for (uint32_t k = 0; k < 2 * (n + 6); k++)
+        if (heard[k] != 0 && (heard[k] < 48 || heard[k] > 208))
+            return;
+    int64_t search = reference_spread(n, heard, NULL), mark = reference_spread(n, heard, train);
+    search_spread = search > search_spread ? search : search_spread;
+    mark_spread = mark > mark_spread ? mark : mark_spread;
+    expect(search < 1024 && mark < 2048, "reference", "the spread", n);
+}
+
 /* Small cases, and how many of them were difficult. */
 static unsigned tied, confirmed, at_limit, not_enough;
 
@@ -107,6 +124,7 @@ static void small_case(uint32_t number)
     for (size_t k = 0; k < COUNT(tried); k++) {
         uint32_t mark = brute_margin(tried[k]) > 0;
         expect(reference_mark(n, heard, bits_of(n, tried[k], train)) == mark, "reference", "mark", n);
+        see_spread(n, heard, train);
         for (size_t d = 0; d < COUNT(decoders); d++)
             try_mark(&decoders[d], n, heard, train, mark);
     }
@@ -141,8 +159,49 @@ static void long_case(uint32_t number)
         try_search(&decoders[d], n, heard, train, cost);
     for (size_t k = 0; k < COUNT(tried); k++) {
         uint32_t mark = reference_mark(n, heard, tried[k]);
+        see_spread(n, heard, tried[k]);
         for (size_t d = 0; d < COUNT(decoders); d++)
             try_mark(&decoders[d], n, heard, tried[k], mark);
+    }
+}
+
+/* Trains heard clearly at full size, and others that differ from them in their first six bits: here the states lie as far
+ * apart as they can, by eleven coded bits, at the sixth step. */
+static void wide_cases(void)
+{
+    uint8_t heard[2 * (72 + 6)], sent[72], other[72];
+    for (uint32_t first = 0; first < 64; first++) {
+        random_train(72, sent);
+        hear(72, sent, 80, 0, 80, heard);
+        for (uint32_t t = 0; t < 72; t++)
+            other[t] = sent[t] ^ (t < 6 ? first >> t & 1 : 0);
+        see_spread(72, heard, other);
+        for (size_t d = 0; d < COUNT(decoders); d++) {
+            try_search(&decoders[d], 72, heard, sent, 0);
+            try_mark(&decoders[d], 72, heard, sent, 1);
+            try_mark(&decoders[d], 72, heard, other, first == 0);
+        }
+    }
+}
+
+/* Dear cases: nothing was sent, and all bits but P1's twelve are heard at full size. */
+static unsigned dear;
+static int64_t dearest;
+
+static void dear_case(uint32_t number)
+{
+    static uint8_t heard[2 * STEPS], train[MOST];
+    uint32_t n = number % 3 ? 3456 : MOST - below(100);
+    signs(n, number % 4 ? 80 : 127, heard);
+    drop(n, below(n - 71), "1", heard);
+    int64_t cost = reference_search(n, heard, train);
+    uint32_t mark = reference_mark(n, heard, train);
+    dear += cost > 65535;
+    dearest = cost > dearest ? cost : dearest;
+    see_spread(n, heard, train);
+    for (size_t d = 0; d < COUNT(decoders); d++) {
+        try_search(&decoders[d], n, heard, train, cost);
+        try_mark(&decoders[d], n, heard, train, mark);
     }
 }
 
@@ -179,17 +238,28 @@ static void misuse(const struct decoder *d)
 
 int main(int argc, char **argv)
 {
-    uint32_t small = argc == 3 ? strtoul(argv[1], NULL, 10) : 0, large = argc == 3 ? strtoul(argv[2], NULL, 10) : 0;
+    uint32_t count[3] = {0};
 
+    for (int k = 1; k < argc && k <= 3; k++)
+        count[k - 1] = strtoul(argv[k], NULL, 10);
     seed(3);
-    for (uint32_t k = 0; k < small; k++)
+    for (uint32_t k = 0; k < count[0]; k++)
         small_case(k);
     printf("%u small cases against brute force: %u have equals, %u are confirmed, %u are at the limit, %u are the only "
-           "least train and still not confirmed\n", small, tied, confirmed, at_limit, not_enough);
-    for (uint32_t k = 0; k < large; k++)
+           "least train and still not confirmed\n", count[0], tied, confirmed, at_limit, not_enough);
+    for (uint32_t k = 0; k < count[1]; k++)
         long_case(k);
-    printf("%u long cases against the reference: %u come back as sent, %u are confirmed\n", large, long_right,
+    printf("%u long cases against the reference: %u come back as sent, %u are confirmed\n", count[1], long_right,
            long_confirmed);
+    for (uint32_t k = 0; k < count[2]; k++)
+        dear_case(k);
+    printf("%u dear cases against the reference: %u cost more than 65535, the dearest %lld\n", count[2], dear,
+           (long long)dearest);
+    expect(count[2] == 0 || dear > 0, "reference", "a dear case", 3456);
+    wide_cases();
+    expect(search_spread == 11 * 80 && mark_spread == 11 * 161, "reference", "the largest spread", 72);
+    printf("soft bytes of -80 to 80: two reached states lie at most %lld apart in the search, %lld in the mark\n",
+           (long long)search_spread, (long long)mark_spread);
     for (size_t d = 0; d < COUNT(decoders); d++)
         misuse(&decoders[d]);
     printf("%u searches, %u marks and calls to be refused, by three decoders: %u differences\n", searches, marks,

@@ -65,6 +65,12 @@ void drop(uint32_t n, uint32_t a, const char *kept, uint8_t *heard)
         }
 }
 
+void signs(uint32_t n, int size, uint8_t *heard)
+{
+    for (uint32_t k = 0; k < 2 * (n + 6); k++)
+        heard[k] = below(2) ? 128 + size : 128 - size;
+}
+
 /* Clear and strong, but of a train with six more bits before its first one: no train of n bits fits the first steps. */
 static void late(uint32_t n, const uint8_t *sent, uint8_t *heard)
 {

@@ -115,3 +115,31 @@ uint32_t reference_mark(uint32_t n, const uint8_t *heard, const uint8_t *train)
     }
     return !new[0].reached || twice < new[0].cost;
 }
+
+int64_t reference_spread(uint32_t n, const uint8_t *heard, const uint8_t *train)
+{
+    struct state old[64], new[64] = {[0] = {.reached = 1}};
+    unsigned own = 0;
+    int64_t widest = 0;
+    for (uint32_t t = 0; t < n + 6; t++) {
+        const uint8_t *pair = heard + 2 * t;
+        int64_t least = INT64_MAX, most = 0;
+        own = (own << 1 | (train != NULL && t < n ? train[t] : 0)) & 127;
+        memcpy(old, new, sizeof old);
+        memset(new, 0, sizeof new);
+        for (unsigned past = 0; past < 128; past++) {
+            int64_t cost = pair_cost(pair, past);
+            if (train != NULL)
+                cost = 2 * cost + (pair[0] != 0) + (pair[1] != 0) - differing(pair, past, own);
+            if (old[past / 2].reached && (t < n || past % 2 == 0))
+                arrive(&new[past % 64], old[past / 2].cost + cost);
+        }
+        for (unsigned s = 0; s < 64; s++)
+            if (new[s].reached) {
+                least = new[s].cost < least ? new[s].cost : least;
+                most = new[s].cost > most ? new[s].cost : most;
+            }
+        widest = most - least > widest ? most - least : widest;
+    }
+    return widest;
+}

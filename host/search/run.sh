@@ -26,7 +26,7 @@ cc="${CC:-cc} -O2 -Wall ${CFLAGS:-}"
 $cc -o "$work/check" host/search/check.c host/search/brute.c "${shared[@]}" -lpthread -ldl -lm
 $cc -o "$work/race" host/search/race.c "${shared[@]}" ${LDFLAGS:-} -losmocore -lpthread -ldl -lm
 
-$emulator "$work/check" 5000 300
+$emulator "$work/check" 5000 300 60
 $emulator "$work/race" agree
 
 # What one train more takes, start-up left out.
@@ -58,7 +58,7 @@ paste -d ' ' "$work/counts" "$work/times" | awk '
     }
     END {
         mark = our_both - our_search
-        printf "bars: search %.0f of 400, mark %.0f of 350: %s\n", our_search, mark,
-            our_search <= 400 && mark <= 350 ? "held" : "NOT HELD"
+        printf "bars: search %.0f of 235, mark %.0f of 230: %s\n", our_search, mark,
+            our_search <= 235 && mark <= 230 ? "held" : "NOT HELD"
     }'
 if [ -n "$emulator" ]; then echo "times are not measured: the code ran under an emulator"; fi

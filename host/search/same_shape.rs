@@ -1,34 +1,45 @@
-//! The search and the mark in the shape of the proved ones, function by function: 32 butterflies with masks, wrapped
-//! costs, and gaps from which the decision word is packed in four groups of sixteen.
+//! The search and the mark in the shape of the proved ones, function by function: two butterflies at a time with masks,
+//! costs of sixteen bits that wrap round, and choices that come four to a byte.
 const X_TAPS: u32 = 0o133;
 const Y_TAPS: u32 = 0o171;
-const START: u32 = 4096;
-const HALF: u32 = 1 << 31;
+const START: u16 = 4096;
+const HALF: u16 = 1 << 15;
 
+#[derive(Clone, Copy)]
 struct Pair {
-    x0: u32,
-    x1: u32,
-    y0: u32,
-    y1: u32,
-}
-
-struct Turn {
-    costs: [u32; 64],
-    gaps: [u32; 64],
+    x0: u16,
+    x1: u16,
+    y0: u16,
+    y1: u16,
 }
 
 struct Crossing {
-    low: u32,
-    low_gap: u32,
-    high: u32,
-    high_gap: u32,
+    low: u16,
+    low_gap: u16,
+    high: u16,
+    high_gap: u16,
 }
 
-fn plus(x: u32, y: u32) -> u32 {
+struct Entry {
+    near: Crossing,
+    far: Crossing,
+}
+
+struct Decided {
+    costs: [u16; 64],
+    chosen: [u8; 16],
+}
+
+struct Compared {
+    costs: [u16; 64],
+    gaps: [u16; 64],
+}
+
+fn plus(x: u16, y: u16) -> u16 {
     x.wrapping_add(y)
 }
 
-fn minus(x: u32, y: u32) -> u32 {
+fn minus(x: u16, y: u16) -> u16 {
     x.wrapping_sub(y)
 }
 
@@ -37,25 +48,25 @@ fn parity_of(register: u32, taps: u32) -> u8 {
 }
 
 /// All ones at each j whose register 2j has the coded bit 1.
-fn masks_of(taps: u32) -> [u32; 32] {
+fn masks_of(taps: u32) -> [u16; 32] {
     let mut masks = [0; 32];
     for j in 0..32 {
-        masks[j] = minus(0, (2 * j as u32 & taps).count_ones() % 2);
+        masks[j] = minus(0, parity_of(2 * j as u32, taps) as u16);
     }
     masks
 }
 
-fn started() -> [u32; 64] {
+fn started() -> [u16; 64] {
     let mut costs = [START; 64];
     costs[0] = 0;
     costs
 }
 
-fn masked(c0: u32, c1: u32, mask: u32) -> u32 {
+fn masked(c0: u16, c1: u16, mask: u16) -> u16 {
     plus(c0, minus(c1, c0) & mask)
 }
 
-fn better(cost: u32, gap: u32) -> u32 {
+fn better(cost: u16, gap: u16) -> u16 {
     if gap < HALF {
         cost
     } else {
@@ -63,7 +74,7 @@ fn better(cost: u32, gap: u32) -> u32 {
     }
 }
 
-fn cross(even: u32, odd: u32, a: u32, b: u32) -> Crossing {
+fn cross(even: u16, odd: u16, a: u16, b: u16) -> Crossing {
     let low = plus(even, a);
     let low_gap = minus(plus(odd, b), low);
     let high = plus(even, b);
@@ -71,59 +82,88 @@ fn cross(even: u32, odd: u32, a: u32, b: u32) -> Crossing {
     Crossing { low: better(low, low_gap), low_gap, high: better(high, high_gap), high_gap }
 }
 
-fn step(old: [u32; 64], xs: &[u32; 32], ys: &[u32; 32], pair: Pair) -> Turn {
+fn four_of(g0: u16, g1: u16, g2: u16, g3: u16) -> u8 {
+    (g0 / HALF + 4 * (g1 / HALF) + 16 * (g2 / HALF) + 64 * (g3 / HALF)) as u8
+}
+
+fn branch_of(pair: Pair, x_mask: u16, y_mask: u16) -> u16 {
+    plus(masked(pair.x0, pair.x1, x_mask), masked(pair.y0, pair.y1, y_mask))
+}
+
+/// The ways into the states j and j + 32, and those into the two that are sixteen further on.
+fn enter(old: &[u16; 64], xs: &[u16; 32], ys: &[u16; 32], pair: Pair, j: usize) -> Entry {
+    let all = pair.x0 + pair.x1 + pair.y0 + pair.y1;
+    let a = branch_of(pair, xs[j], ys[j]);
+    let b = branch_of(pair, xs[j], ys[j + 16]);
+    Entry {
+        near: cross(old[2 * j], old[2 * j + 1], a, minus(all, a)),
+        far: cross(old[2 * j + 32], old[2 * j + 33], b, minus(all, b)),
+    }
+}
+
+fn put_four(l: &mut [u16; 64], j: usize, v0: u16, v1: u16, v2: u16, v3: u16) {
+    l[j] = v0;
+    l[j + 16] = v1;
+    l[j + 32] = v2;
+    l[j + 48] = v3;
+}
+
+fn decide(old: [u16; 64], xs: &[u16; 32], ys: &[u16; 32], pair: Pair) -> Decided {
+    let mut costs = [0; 64];
+    let mut chosen = [0; 16];
+    for j in 0..16 {
+        let e = enter(&old, xs, ys, pair, j);
+        put_four(&mut costs, j, e.near.low, e.far.low, e.near.high, e.far.high);
+        chosen[j] = four_of(e.near.low_gap, e.far.low_gap, e.near.high_gap, e.far.high_gap);
+    }
+    Decided { costs, chosen }
+}
+
+fn compare(old: [u16; 64], xs: &[u16; 32], ys: &[u16; 32], pair: Pair) -> Compared {
     let mut costs = [0; 64];
     let mut gaps = [0; 64];
-    let all = pair.x0 + pair.x1 + pair.y0 + pair.y1;
-    for j in 0..32 {
-        let a = plus(masked(pair.x0, pair.x1, xs[j]), masked(pair.y0, pair.y1, ys[j]));
-        let c = cross(old[2 * j], old[2 * j + 1], a, minus(all, a));
-        costs[j] = c.low;
-        gaps[j] = c.low_gap;
-        costs[j + 32] = c.high;
-        gaps[j + 32] = c.high_gap;
+    for j in 0..16 {
+        let e = enter(&old, xs, ys, pair, j);
+        put_four(&mut costs, j, e.near.low, e.far.low, e.near.high, e.far.high);
+        put_four(&mut gaps, j, e.near.low_gap, e.far.low_gap, e.near.high_gap, e.far.high_gap);
     }
-    Turn { costs, gaps }
+    Compared { costs, gaps }
 }
 
-fn weights() -> [u32; 16] {
-    let mut w = [1; 16];
-    for k in 1..16 {
-        w[k] = 2 * w[k - 1];
-    }
-    w
+fn two(bytes: &[u8; 16], k: usize) -> u64 {
+    bytes[k] as u64 + 256 * bytes[k + 1] as u64
 }
 
-fn put(sum: u32, gap: u32, weight: u32) -> u32 {
-    if gap < HALF {
-        sum
-    } else {
-        sum + weight
-    }
+fn four(bytes: &[u8; 16], k: usize) -> u64 {
+    two(bytes, k) + 65536 * two(bytes, k + 2)
 }
 
-fn word_of(gaps: &[u32; 64], w: &[u32; 16]) -> u64 {
-    let (mut g0, mut g1, mut g2, mut g3) = (0, 0, 0, 0);
-    for k in 0..16 {
-        g0 = put(g0, gaps[k], w[k]);
-        g1 = put(g1, gaps[k + 16], w[k]);
-        g2 = put(g2, gaps[k + 32], w[k]);
-        g3 = put(g3, gaps[k + 48], w[k]);
-    }
-    g0 as u64 + 65536 * (g1 as u64 + 65536 * (g2 as u64 + 65536 * g3 as u64))
+fn eight(bytes: &[u8; 16], k: usize) -> u64 {
+    four(bytes, k) + 4294967296 * four(bytes, k + 4)
 }
 
-fn cost_of_0(heard: u8) -> u32 {
+/// Bit 8(s % 8) + s / 8 is that of state s.
+fn word_of(chosen: &[u8; 16]) -> u64 {
+    eight(chosen, 0) + 2 * eight(chosen, 8)
+}
+
+/// The number beside the total that is stored so.
+fn nearest(total: u32, stored: u16) -> u32 {
+    let up = plus(minus(stored, total as u16), HALF);
+    total + up as u32 - 32768
+}
+
+fn cost_of_0(heard: u8) -> u16 {
     if heard > 128 {
-        heard as u32 - 128
+        heard as u16 - 128
     } else {
         0
     }
 }
 
-fn cost_of_1(heard: u8) -> u32 {
+fn cost_of_1(heard: u8) -> u16 {
     if heard != 0 && heard < 128 {
-        128 - heard as u32
+        128 - heard as u16
     } else {
         0
     }
@@ -136,20 +176,21 @@ fn pair_of(x: u8, y: u8) -> Pair {
 fn forward(n: usize, heard: &[u8], words: &mut [u64]) -> u32 {
     let xs = masks_of(X_TAPS);
     let ys = masks_of(Y_TAPS);
-    let w = weights();
     let mut costs = started();
+    let mut total = 0;
     for t in 0..n + 6 {
-        let turn = step(costs, &xs, &ys, pair_of(heard[2 * t], heard[2 * t + 1]));
+        let turn = decide(costs, &xs, &ys, pair_of(heard[2 * t], heard[2 * t + 1]));
+        words[t] = word_of(&turn.chosen);
         costs = turn.costs;
-        words[t] = word_of(&turn.gaps, &w);
+        total = nearest(total, costs[0]);
     }
-    costs[0]
+    total
 }
 
 fn follow(n: usize, train: &mut [u8], words: &mut [u64]) {
     let mut s = 0;
     for t in (0..n + 6).rev() {
-        let d = (words[t] >> s) % 2;
+        let d = (words[t] >> (8 * (s % 8) + s / 8)) % 2;
         words[t] = 0;
         if 6 <= t {
             train[t - 6] = d as u8;
@@ -164,7 +205,7 @@ pub fn search(n: usize, heard: &[u8], train: &mut [u8], words: &mut [u64]) -> u3
     cost
 }
 
-fn heard_of(byte: u8) -> u32 {
+fn heard_of(byte: u8) -> u16 {
     if byte == 0 {
         0
     } else {
@@ -172,7 +213,7 @@ fn heard_of(byte: u8) -> u32 {
     }
 }
 
-fn agreeing_of(cost: u32, byte: u8, bit: u8, own: u8) -> u32 {
+fn agreeing_of(cost: u16, byte: u8, bit: u8, own: u8) -> u16 {
     if bit == own {
         2 * cost + heard_of(byte)
     } else {
@@ -189,7 +230,7 @@ fn own_pair(x: u8, y: u8, own_x: u8, own_y: u8) -> Pair {
     }
 }
 
-fn is_above(gap: u32, oldest: u32) -> bool {
+fn is_above(gap: u16, oldest: u32) -> bool {
     if oldest == 0 {
         0 < gap && gap < HALF
     } else {
@@ -206,7 +247,7 @@ pub fn mark(n: usize, heard: &[u8], train: &[u8]) -> bool {
         let bit = if t < n { train[t] as u32 } else { 0 };
         register = register / 2 + 64 * bit;
         let pair = own_pair(heard[2 * t], heard[2 * t + 1], parity_of(register, X_TAPS), parity_of(register, Y_TAPS));
-        let turn = step(costs, &xs, &ys, pair);
+        let turn = compare(costs, &xs, &ys, pair);
         costs = turn.costs;
         if !is_above(turn.gaps[(register / 2) as usize], register % 2) {
             return false;

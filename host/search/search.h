@@ -31,6 +31,9 @@ mark_call gauge_mark, shape_mark, ordinary_mark;
 int64_t reference_cost(uint32_t n, const uint8_t *heard, const uint8_t *train);
 int64_t reference_search(uint32_t n, const uint8_t *heard, uint8_t *train);
 uint32_t reference_mark(uint32_t n, const uint8_t *heard, const uint8_t *train);
+/* How far apart two reached states lie at most, over all steps: in the search, or in the mark's pass of a train, where
+ * a bit costs twice as much and 1 more if it was heard and agrees with the train's own. */
+int64_t reference_spread(uint32_t n, const uint8_t *heard, const uint8_t *train);
 
 /* brute.c: the first looks at all trains of n <= SMALL bits and gives the least; the others speak of the same heard
  * bits. The margin is by how much the nearest rival is above the limit: a train is confirmed when it is above 0. */
@@ -46,5 +49,6 @@ void random_train(uint32_t n, uint8_t *train);
 void hear(uint32_t n, const uint8_t *train, int level, int noise, int limit, uint8_t *heard);
 void drop(uint32_t n, uint32_t a, const char *kept, uint8_t *heard);
 void some_heard(uint32_t n, const uint8_t *sent, uint8_t *heard);
+void signs(uint32_t n, int size, uint8_t *heard); /* all of one size, with random signs */
 
 #endif

@@ -19,3 +19,4 @@ pub mod Composed
 pub mod Demands
 pub mod Data
 pub mod One
+pub mod Spread

@@ -2,7 +2,7 @@
 -- Assumes nothing.
 use mathlib.Core.Path.{_≡_, refl, ap₂}
 use mathlib.Core.Bool.{Bool, true, false}
-use mathlib.Core.Logic.{_≢_}
+use mathlib.Core.Logic.{_≢_, _⊎_, inl, inr}
 use mathlib.Core.List.{List}
 use Prim.Native.Nat.{ℕ, zero, suc, _+_, _-_, _*_, _≤_, _<_}
 use native.Mathlib.Omega.{arith}
@@ -18,6 +18,7 @@ use Rattle.coder.proofs.TrainLaws.{tailed-bits}
 use Rattle.trellis.specs.Heard.{branch, markCost}
 use Rattle.search.specs.Stored.{paired}
 use Rattle.search.specs.Bytes.{byteCost, byteHeard, agreeing, Costs, costOf, heardOf}
+use Rattle.search.specs.Spread.{SoftBytes}
 
 pub cost-0 : (byte : ℕ) → byteCost byte 0 ≡ byte - 128
 unfolding byteCost
@@ -35,7 +36,7 @@ pub cost-1-heard : (byte : ℕ) → byte ≢ 0 → byteCost byte 1 ≡ 128 - byt
 unfolding byteCost
 cost-1-heard byte h = rw (ne-eqb byte 0 h) refl
 
-pub byte-most : (byte bit : ℕ) → byte < 256 → byteCost byte bit ≤ 127
+byte-most : (byte bit : ℕ) → byte < 256 → byteCost byte bit ≤ 127
 unfolding byteCost
 byte-most byte bit h = go (eqb byte 0) refl (eqb bit 0)
   where
@@ -43,6 +44,25 @@ byte-most byte bit h = go (eqb byte 0) refl (eqb bit 0)
     go true e y = omega arith
     go false e true = omega arith
     go false e false = omega (arith, eqb-false byte 0 e)
+
+pub cost-most : (heard : List ℕ) → ((m : ℕ) → getD heard m 0 < 256) → (m bit : ℕ) → costOf heard m bit ≤ 127
+unfolding costOf
+cost-most heard bytes m bit = byte-most (getD heard m 0) bit (bytes m)
+
+-- a soft byte of -80 to 80
+byte-soft : (byte bit : ℕ) → (byte ≡ 0) ⊎ ((48 ≤ byte) × (byte ≤ 208)) → byteCost byte bit ≤ 80
+unfolding byteCost
+byte-soft byte bit (inl e) = rw e (omega arith)
+byte-soft byte bit (inr h) = go (eqb byte 0) (eqb bit 0)
+  where
+    go : (x y : Bool) → choose x 0 (choose y (byte - 128) (128 - byte)) ≤ 80
+    go true y = omega arith
+    go false true = omega arith
+    go false false = omega arith
+
+pub cost-soft : (heard : List ℕ) → SoftBytes heard → (m bit : ℕ) → costOf heard m bit ≤ 80
+unfolding costOf
+cost-soft heard soft m bit = byte-soft (getD heard m 0) bit (soft m)
 
 pub heard-most : (byte : ℕ) (z : Bool) → choose z (byteHeard byte) 0 ≤ 1
 unfolding byteHeard

@@ -10,7 +10,8 @@ use lib.ListN.{length, getD, set, length-set}
 use borrow.Author.Tests.{leb-true, leb-false}
 use Rattle.laws.specs.Lists.{choose, filled}
 use Rattle.laws.proofs.ListLaws.{after-set, filled-ext}
-use Rattle.search.specs.Followed.{bitIn, followed}
+use Rattle.search.specs.Words.{seat, bitIn}
+use Rattle.search.specs.Followed.{followed}
 
 -- the bits of the train that left the register, the last first, with t steps still to go
 pub record Trained (n : ℕ) (bits train₀ train : List ℕ) (t : ℕ) : Type 0 where
@@ -74,11 +75,11 @@ module _ (n : ℕ) (train₀ words₀ : List ℕ) (train-room : n ≤ length tra
         beyond = λ j h. after-set words t 0 j 0 _ inside (λ same. absurd (omega arith)) (λ other. c .beyond j h);
       }
 
-  turn : (train words : List ℕ) (s t bit : ℕ) → Following n train₀ words₀ train words s (suc t) → bit ≡ getD words t 0 / 2 ^ s % 2
+  turn : (train words : List ℕ) (s t bit : ℕ) → Following n train₀ words₀ train words s (suc t) → bit ≡ getD words t 0 / 2 ^ seat s % 2
       → Following n train₀ words₀ (choose (leb 6 t) (set train (t - 6) bit) train) (set words t 0) ((2 * s + bit) % 64) t
   unfolding followed bitIn
   turn train words s t bit c read =
-      let is-bit : bit ≡ bitIn words₀ t s = read ∙ ap (λ (x : ℕ). x / 2 ^ s % 2) (c .done .unread t (omega arith)) in
+      let is-bit : bit ≡ bitIn words₀ t s = read ∙ ap (λ (x : ℕ). x / 2 ^ seat s % 2) (c .done .unread t (omega arith)) in
       let first : n + 6 - suc t + 0 ≡ n + 5 - t = omega arith in
       let left : getD (followed (bitIn words₀) (n + 6) 0) (n + 5 - t) 0 ≡ bit = (rw first at (c .ahead 0)) ∙ sym is-bit in
       record {
@@ -93,7 +94,7 @@ module _ (n : ℕ) (train₀ words₀ : List ℕ) (train-room : n ≤ length tra
 
   -- a turn: one step back
   pub following-again : (train train′ words : List ℕ) (s t bit : ℕ) → Following n train₀ words₀ train words s t → 0 < t
-      → bit ≡ getD words (t - 1) 0 / 2 ^ s % 2
+      → bit ≡ getD words (t - 1) 0 / 2 ^ seat s % 2
       → train′ ≡ choose (leb 6 (t - 1)) (set train (t - 1 - 6) bit) train
       → Following n train₀ words₀ train′ (set words (t - 1) 0) ((2 * s + bit) % 64) (t - 1)
   following-again train train′ words s t bit c more read put =

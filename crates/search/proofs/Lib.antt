@@ -6,3 +6,4 @@ pub mod ForwardLaws
 pub mod FollowLaws
 pub mod SearchLaws
 pub mod MarkLaws
+pub mod SpreadLaws

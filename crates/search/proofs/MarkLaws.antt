@@ -19,25 +19,28 @@ use Rattle.trellis.specs.Heard.{branch, markCost, trainCost, differing}
 use Rattle.trellis.specs.Passes.{candidate, best, Clear}
 use Rattle.trellis.specs.Wanted.{Confirmed}
 use Rattle.trellis.proofs.MarkLaws.{clear-confirmed, confirmed-clear}
-use Rattle.search.specs.Stored.{start, wrapped, paired, above, Masks, Stored, Turned}
+use Rattle.search.specs.Stored.{start, wrapped, paired, gapAt, costAt, above, Masks, Stored}
 use Rattle.search.specs.Bytes.{costOf, heardOf, agreeing, Costs}
 use Rattle.search.specs.Promises.{Marked}
-use Rattle.search.proofs.ByteLaws.{byte-most, heard-most, branch-agreeing}
+use Rattle.search.proofs.ByteLaws.{cost-most, heard-most, branch-agreeing}
 use Rattle.search.proofs.TurnLaws.{turn-none, turn-costs, turn-above}
 
 -- the costs of the second pass
 abbrev pub second : List ℕ → List ℕ → ℕ → ℕ → ℕ
 second heard w = branch (markCost (costOf heard) (heardOf heard) w)
 
-mark-most : (heard w : List ℕ) → ((m : ℕ) → getD heard m 0 < 256) → (m bit : ℕ) → markCost (costOf heard) (heardOf heard) w m bit ≤ 255
-unfolding markCost costOf heardOf
-mark-most heard w bytes m bit =
-    omega (arith, byte-most (getD heard m 0) bit (bytes m), heard-most (getD heard m 0) (eqb bit (coded (tailed w) m)))
+-- a bit costs at most one more than twice what it did, and a step twice that
+module _ (heard w : List ℕ) (B : ℕ) (low : (m bit : ℕ) → costOf heard m bit ≤ B) where
+  mark-within : (m bit : ℕ) → markCost (costOf heard) (heardOf heard) w m bit ≤ 2 * B + 1
+  unfolding markCost heardOf
+  mark-within m bit = omega (arith, low m bit, heard-most (getD heard m 0) (eqb bit (coded (tailed w) m)))
+
+  pub second-within : (t r : ℕ) → second heard w t r ≤ 2 * (2 * B + 1)
+  unfolding branch
+  second-within t r = omega (arith, mark-within (2 * t) (parity r maskX), mark-within (2 * t + 1) (parity r maskY))
 
 pub second-most : (heard w : List ℕ) → ((m : ℕ) → getD heard m 0 < 256) → (t r : ℕ) → second heard w t r ≤ 510
-unfolding branch
-second-most heard w bytes t r =
-    omega (arith, mark-most heard w bytes (2 * t) (parity r maskX), mark-most heard w bytes (2 * t + 1) (parity r maskY))
+second-most heard w bytes = second-within heard w 127 (cost-most heard bytes)
 
 -- t steps are done
 pub record Marking (n : ℕ) (heard w xs ys costs : List ℕ) (r t : ℕ) : Type 0 where
@@ -92,7 +95,7 @@ input-bit n t x train whole e = omega (arith, e ∙ input-is n t train whole, ta
 module _ (n : ℕ) (heard w xs ys costs : List ℕ) (r t : ℕ) (m : Marking n heard w xs ys costs r t) (more : t < n + 6)
     (x r′ x0 x1 y0 y1 : ℕ) (costs′ gaps : List ℕ) (is-input : x ≡ getD (tailed w) t 0) (after : (r′ ≡ entered r x) × (r′ < 128))
     (pair : Costs (agreeing (getD heard (2 * t) 0) (parity r′ maskX)) (agreeing (getD heard (2 * t + 1) 0) (parity r′ maskY)) x0 x1 y0 y1)
-    (turned : Turned costs (paired x0 x1 y0 y1) costs′ gaps) where
+    (stored : Stored (costAt costs (paired x0 x1 y0 y1)) costs′) (compared : Stored (gapAt costs (paired x0 x1 y0 y1)) gaps) where
   abbrev own : ℕ
   own = candidate (best (second heard w) start t) (second heard w t) (r′ / 2) (r′ % 2)
 
@@ -108,7 +111,7 @@ module _ (n : ℕ) (heard w xs ys costs : List ℕ) (r t : ℕ) (m : Marking n h
 
   tells : above (getD gaps (r′ / 2) 0) (r′ % 2) ≡ ltb own other
   tells =
-      turn-above (second heard w) 510 (second-most heard w (m .bytes)) (omega arith) t costs (paired x0 x1 y0 y1) same (m .held) costs′ gaps turned
+      turn-above (second heard w) 510 (second-most heard w (m .bytes)) (omega arith) t costs (paired x0 x1 y0 y1) same (m .held) gaps compared
       (r′ / 2) (r′ % 2) (omega (arith, after .1)) (omega arith)
 
   pub marking-again : above (getD gaps (r′ / 2) 0) (r′ % 2) ≡ true → Marking n heard w xs ys costs′ r′ (t + 1)
@@ -121,7 +124,7 @@ module _ (n : ℕ) (heard w xs ys costs : List ℕ) (r t : ℕ) (m : Marking n h
     x-masks = m .x-masks;
     y-masks = m .y-masks;
     held = rw (add-one t)
-        (turn-costs (second heard w) 510 (second-most heard w (m .bytes)) (omega arith) t costs (paired x0 x1 y0 y1) same (m .held) costs′ gaps turned);
+        (turn-costs (second heard w) 510 (second-most heard w (m .bytes)) (omega arith) t costs (paired x0 x1 y0 y1) same (m .held) costs′ stored);
     inputs = rw (add-one t) is-register;
     seven-bits = after .1;
     clear = λ k h. at k h (ltb k t) refl;

@@ -14,7 +14,8 @@ use Rattle.trellis.proofs.StepLaws.{choice-bit}
 use Rattle.trellis.proofs.DecodedLaws.{decoded-cost, decoded-returned}
 use Rattle.search.specs.Stored.{start}
 use Rattle.search.specs.Bytes.{costOf}
-use Rattle.search.specs.Followed.{bitIn, followed}
+use Rattle.search.specs.Words.{seat, bitIn}
+use Rattle.search.specs.Followed.{followed}
 use Rattle.search.specs.Promises.{Searched}
 use Rattle.search.proofs.ForwardLaws.{first, first-most}
 
@@ -30,13 +31,15 @@ followed-survivor f b P (suc t) s same h =
 
 module _ (n : ℕ) (heard before-train before-words : List ℕ) (bytes : (m : ℕ) → getD heard m 0 < 256) where
   abbrev decisions : List ℕ
-  decisions = filled (n + 6) (λ k. packed 64 (choice (first heard) start k)) before-words
+  decisions = filled (n + 6) (λ k. packed 64 (λ p. choice (first heard) start k (seat p))) before-words
 
   bit-choice : (k q : ℕ) → k < n + 6 → q < 64 → bitIn decisions k q ≡ choice (first heard) start k q
   unfolding bitIn
   bit-choice k q h hq =
-      rw (filled-at (n + 6) (λ k. packed 64 (choice (first heard) start k)) before-words k 0 h)
-      (packed-bit 64 (choice (first heard) start k) (choice-bit (first heard) start k) q hq)
+      let back : seat (seat q) ≡ q = omega arith in
+      rw (filled-at (n + 6) (λ k. packed 64 (λ p. choice (first heard) start k (seat p))) before-words k 0 h)
+      (packed-bit 64 (λ p. choice (first heard) start k (seat p)) (λ p. choice-bit (first heard) start k (seat p)) (seat q) (omega arith)
+      ∙ ap (choice (first heard) start k) back)
 
   way-back : followed (bitIn decisions) (n + 6) 0 ≡ survivor (first heard) start (n + 6) 0
   way-back = followed-survivor (bitIn decisions) (first heard) start (n + 6) 0 bit-choice (omega arith)

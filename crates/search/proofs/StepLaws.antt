@@ -3,7 +3,7 @@
 use mathlib.Core.Path.{_≡_, refl, sym, ap, ap₂, _∙_}
 use mathlib.Core.Bool.{Bool, true, false}
 use mathlib.Core.List.{List, []}
-use Prim.Native.Nat.{ℕ, zero, suc, _+_, _-_, _*_, _≤_, _<_}
+use Prim.Native.Nat.{ℕ, zero, suc, _+_, _-_, _*_, _/_, _%_, _≤_, _<_}
 use native.Mathlib.Omega.{arith}
 use lib.Bits.{bitAnd, and-zero-r, and-mask}
 use lib.Count.{ones, onesIn}
@@ -15,7 +15,8 @@ use Rattle.laws.proofs.ListLaws.{after-set}
 use Rattle.laws.proofs.Tables.{below, below-at, strays, table-rule, both, both-left, both-right}
 use Rattle.coder.specs.Register.{parity, maskX, maskY}
 use Rattle.trellis.specs.Passes.{via, before}
-use Rattle.search.specs.Stored.{width, wrapped, gap, lesser, paired, way, gapAt, costAt, Crossed, Small, maskAt, Stored, Turned}
+use Rattle.search.specs.Stored.{width, half, wrapped, gap, top, lesser, paired, way, gapAt, costAt, Crossed, Entered, Small, maskAt, Stored}
+use Rattle.search.specs.Words.{fourBits, Chosen}
 
 -- a list that is written out
 pub stored-by : (f : ℕ → ℕ) (l : List ℕ) → length l ≡ 64 → strays f 0 l ≡ [] → Stored f l
@@ -31,7 +32,7 @@ pub masked-0 : (c0 d mask : ℕ) → c0 < width → mask ≡ 0 → wrapped (c0 +
 masked-0 c0 d mask h e = rw (e, and-zero-r d) (omega arith)
 
 pub masked-1 : (c0 c1 mask : ℕ) → c0 < width → c1 < width → mask ≡ width - 1 → wrapped (c0 + bitAnd (wrapped (c1 + (width - c0))) mask) ≡ c1
-masked-1 c0 c1 mask h0 h1 e = rw (e, and-mask (wrapped (c1 + (width - c0))) 32) (omega arith)
+masked-1 c0 c1 mask h0 h1 e = rw (e, and-mask (wrapped (c1 + (width - c0))) 16) (omega arith)
 
 -- what x is by a mask that is no ones or all ones
 abbrev pub Masked : ℕ → ℕ → ℕ → ℕ → Type 0
@@ -64,6 +65,15 @@ pub branch-by : (x0 x1 y0 y1 x-mask y-mask x y a : ℕ) → Small x0 x1 y0 y1 �
 branch-by x0 x1 y0 y1 x-mask y-mask x y a small by-x by-y e r ex ey =
     let sum : x + y ≡ paired x0 x1 y0 y1 r = unfold paired in ap₂ _+_ (masked-by maskX x0 x1 x-mask r x by-x ex) (masked-by maskY y0 y1 y-mask r y by-y ey) in
     omega (arith, paired-most x0 x1 y0 y1 small r)
+
+-- the lesser by the two cases of a gap
+pub lesser-by : (x g r : ℕ) → (g < half → r ≡ x) × (half ≤ g → r ≡ wrapped (x + g)) → r ≡ lesser x g
+unfolding lesser
+lesser-by x g r by = go (ltb g half) refl
+  where
+    go : (z : Bool) → ltb g half ≡ z → r ≡ choose z x (wrapped (x + g))
+    go true e = by .0 (ltb-true g half e)
+    go false e = by .1 (ltb-false g half e)
 
 -- both polynomials have lags 0 and 6: either turns the coded bit over, and both together leave it
 abbrev crossing : ℕ → ℕ → Bool
@@ -121,52 +131,73 @@ module _ (x0 x1 y0 y1 j : ℕ) (h : j < 32) where
   unfolding paired
   paired-both = rw (turns-X j h .both-ends, turns-Y j h .both-ends) refl
 
--- the lower entries are made up to j, and with each the entry 32 above it
-pub record Halves (f : ℕ → ℕ) (j : ℕ) (l : List ℕ) : Type 0 where
+-- X has no lag 1: its mask is the same for the state that is sixteen further on
+abbrev same-X : ℕ → Bool
+same-X j = eqb (parity (2 * j) maskX) (parity (2 * (j + 16)) maskX)
+
+pub mask-X : (j : ℕ) → j < 16 → maskAt maskX (2 * j) ≡ maskAt maskX (2 * (j + 16))
+unfolding maskAt ones onesIn
+mask-X j h =
+    let same : parity (2 * j) maskX ≡ parity (2 * (j + 16)) maskX = eqb→eq _ _ (below-at same-X 16 tt j h) in
+    ap (λ (p : ℕ). choose (eqb p 0) 0 (width - 1)) same
+
+-- the entries i, i + 16, i + 32 and i + 48 are made for each i below j
+pub record Quarters (f : ℕ → ℕ) (j : ℕ) (l : List ℕ) : Type 0 where
   pub all : length l ≡ 64
-  pub made : (i : ℕ) → i < j → (getD l i 0 ≡ f i) × (getD l (i + 32) 0 ≡ f (i + 32))
+  pub made : (i q : ℕ) → i < j → q < 4 → getD l (i + 16 * q) 0 ≡ f (i + 16 * q)
 
-pub halves-none : (f : ℕ → ℕ) (l : List ℕ) → length l ≡ 64 → Halves f 0 l
-halves-none f l all = record { all = all; made = λ i h. absurd (omega arith) }
+pub quarters-none : (f : ℕ → ℕ) (l : List ℕ) → length l ≡ 64 → Quarters f 0 l
+quarters-none f l all = record { all = all; made = λ i q h hq. absurd (omega arith) }
 
-pub halves-again : (f : ℕ → ℕ) (j : ℕ) (l : List ℕ) (u v : ℕ) → Halves f j l → j < 32 → u ≡ f j → v ≡ f (j + 32)
-    → Halves f (j + 1) (set (set l j u) (j + 32) v)
-halves-again f j l u v halves h eu ev = record { all = simp length-set (halves .all); made = λ i hi. (lower i hi, upper i hi) }
+pub quarters-again : (f : ℕ → ℕ) (j : ℕ) (l l′ : List ℕ) (u0 u1 u2 u3 : ℕ) → Quarters f j l → j < 16
+    → l′ ≡ set (set (set (set l j u0) (j + 16) u1) (j + 32) u2) (j + 48) u3
+    → u0 ≡ f j → u1 ≡ f (j + 16) → u2 ≡ f (j + 32) → u3 ≡ f (j + 16 + 32)
+    → Quarters f (j + 1) l′
+quarters-again f j l l′ u0 u1 u2 u3 quarters h put e0 e1 e2 e3 = rw put (record { all = simp length-set (quarters .all); made = made })
   where
-    inside : j < length l
-    inside = omega (arith, halves .all)
+    up : j + 16 + 32 ≡ j + 48
+    up = omega arith
 
-    inside-too : j + 32 < length (set l j u)
-    inside-too = simp length-set (omega (arith, halves .all))
+    inside : (k : ℕ) → k < 64 → k < length l
+    inside k low = omega (arith, quarters .all)
 
-    lower : (i : ℕ) → i < j + 1 → getD (set (set l j u) (j + 32) v) i 0 ≡ f i
-    lower i hi =
-        after-set (set l j u) (j + 32) v i 0 (f i) inside-too (λ same. absurd (omega arith))
-        (λ _. after-set l j u i 0 (f i) inside (λ same. rw same eu) (λ other. halves .made i (omega arith) .0))
+    made : (i q : ℕ) → i < j + 1 → q < 4 → getD (set (set (set (set l j u0) (j + 16) u1) (j + 32) u2) (j + 48) u3) (i + 16 * q) 0 ≡ f (i + 16 * q)
+    made i q hi hq =
+        after-set (set (set (set l j u0) (j + 16) u1) (j + 32) u2) (j + 48) u3 (i + 16 * q) 0 _ (simp length-set (inside (j + 48) (omega arith))) (λ same. rw (same, ← up) e3)
+        (λ not-3. after-set (set (set l j u0) (j + 16) u1) (j + 32) u2 (i + 16 * q) 0 _ (simp length-set (inside (j + 32) (omega arith))) (λ same. rw same e2)
+        (λ not-2. after-set (set l j u0) (j + 16) u1 (i + 16 * q) 0 _ (simp length-set (inside (j + 16) (omega arith))) (λ same. rw same e1)
+        (λ not-1. after-set l j u0 (i + 16 * q) 0 _ (inside j (omega arith)) (λ same. rw same e0)
+        (λ not-0. quarters .made i q (omega arith) hq))))
 
-    upper : (i : ℕ) → i < j + 1 → getD (set (set l j u) (j + 32) v) (i + 32) 0 ≡ f (i + 32)
-    upper i hi =
-        after-set (set l j u) (j + 32) v (i + 32) 0 (f (i + 32)) inside-too (λ same. rw same ev)
-        (λ other. after-set l j u (i + 32) 0 (f (i + 32)) inside (λ same. absurd (omega arith)) (λ _. halves .made i (omega arith) .1))
+pub quarters-all : (f : ℕ → ℕ) (j : ℕ) (l : List ℕ) → Quarters f j l → 16 ≤ j → Stored f l
+quarters-all f j l quarters h =
+    record {
+      all = quarters .all;
+      at = λ s hs. let e : s % 16 + 16 * (s / 16) ≡ s = omega arith in rw e at (quarters .made (s % 16) (s / 16) (omega arith) (omega arith));
+    }
 
-pub halves-all : (f : ℕ → ℕ) (j : ℕ) (l : List ℕ) → Halves f j l → 32 ≤ j → Stored f l
-halves-all f j l halves h = record { all = halves .all; at = λ s hs. go s hs (ltb s 32) refl }
-  where
-    go : (s : ℕ) → s < 64 → (t : Bool) → ltb s 32 ≡ t → getD l s 0 ≡ f s
-    go s hs true e = halves .made s (omega (arith, ltb-true s 32 e)) .0
-    go s hs false e =
-        let back : s - 32 + 32 ≡ s = omega (arith, ltb-false s 32 e) in
-        rw back at (halves .made (s - 32) (omega (arith, ltb-false s 32 e)) .1)
+-- the choices of the states i, i + 16, i + 32 and i + 48 are made for each i below j
+pub record Choosing (f : ℕ → ℕ) (j : ℕ) (bytes : List ℕ) : Type 0 where
+  pub sixteen : length bytes ≡ 16
+  pub made : (i : ℕ) → i < j → getD bytes i 0 ≡ fourBits (top (f i)) (top (f (i + 16))) (top (f (i + 32))) (top (f (i + 48)))
 
--- j pairs of states are entered
-pub record Turning (old : List ℕ) (b : ℕ → ℕ) (j : ℕ) (costs gaps : List ℕ) : Type 0 where
-  pub counted : j ≤ 32
-  pub lesser-of : Halves (costAt old b) j costs
-  pub gap-of : Halves (gapAt old b) j gaps
+pub choosing-none : (f : ℕ → ℕ) (bytes : List ℕ) → length bytes ≡ 16 → Choosing f 0 bytes
+choosing-none f bytes sixteen = record { sixteen = sixteen; made = λ i h. absurd (omega arith) }
 
-pub turning-start : (old : List ℕ) (b : ℕ → ℕ) (costs gaps : List ℕ) → length costs ≡ 64 → length gaps ≡ 64 → Turning old b 0 costs gaps
-turning-start old b costs gaps c g =
-    record { counted = omega arith; lesser-of = halves-none (costAt old b) costs c; gap-of = halves-none (gapAt old b) gaps g }
+pub choosing-again : (f : ℕ → ℕ) (j : ℕ) (bytes : List ℕ) (g0 g1 g2 g3 x : ℕ) → Choosing f j bytes → j < 16
+    → g0 ≡ f j → g1 ≡ f (j + 16) → g2 ≡ f (j + 32) → g3 ≡ f (j + 16 + 32) → x ≡ fourBits (top g0) (top g1) (top g2) (top g3)
+    → Choosing f (j + 1) (set bytes j x)
+choosing-again f j bytes g0 g1 g2 g3 x choosing h e0 e1 e2 e3 ex =
+    let up : j + 16 + 32 ≡ j + 48 = omega arith in
+    record {
+      sixteen = simp length-set (choosing .sixteen);
+      made = λ i hi.
+          after-set bytes j x i 0 _ (omega (arith, choosing .sixteen)) (λ same. rw (same, ← up, ← e0, ← e1, ← e2, ← e3) ex)
+          (λ other. choosing .made i (omega arith));
+    }
+
+pub choosing-all : (f : ℕ → ℕ) (j : ℕ) (bytes : List ℕ) → Choosing f j bytes → 16 ≤ j → Chosen f bytes
+choosing-all f j bytes choosing h = record { sixteen = choosing .sixteen; four = λ i hi. choosing .made i (omega arith) }
 
 -- a way by the state before and the branch cost
 way-is : (old : List ℕ) (b : ℕ → ℕ) (s d from r a : ℕ) → before s d ≡ from → via s d ≡ r → b r ≡ a → way old b s d ≡ wrapped (getD old from 0 + a)
@@ -174,46 +205,35 @@ unfolding way
 way-is old b s d from r a e-from e-r e-a = ap₂ (λ q x. wrapped (getD old q 0 + x)) e-from (ap b e-r ∙ e-a)
 
 -- the ways into the states j and j + 32 cross: from 2 j and 2 j + 1, over one branch cost and its complement
-module _ (old : List ℕ) (x0 x1 y0 y1 j : ℕ) (small : Small x0 x1 y0 y1) (h : j < 32) where
+module _ (old : List ℕ) (x0 x1 y0 y1 j even odd : ℕ) (small : Small x0 x1 y0 y1) (h : j < 32) (is-even : 2 * j ≡ even) (is-odd : 2 * j + 1 ≡ odd) where
   abbrev p : ℕ → ℕ
   p = paired x0 x1 y0 y1
 
-  paired-whole : p (2 * j) ≤ x0 + x1 + y0 + y1
-  paired-whole = omega (arith, paired-oldest x0 x1 y0 y1 j h)
-
   module _ (a b : ℕ) (ea : a ≡ p (2 * j)) (eb : b ≡ wrapped (x0 + x1 + y0 + y1 + (width - a))) where
     complement : (c : ℕ) → c + p (2 * j) ≡ x0 + x1 + y0 + y1 → c ≡ b
-    complement c e = omega (arith, paired-whole, small .small-x0, small .small-x1, small .small-y0, small .small-y1)
+    complement c e = omega (arith, small .small-x0, small .small-x1, small .small-y0, small .small-y1)
 
-    way-low-0 : way old p j 0 ≡ wrapped (getD old (2 * j) 0 + a)
-    way-low-0 = way-is old p j 0 (2 * j) (2 * j) a (omega arith) (omega arith) (sym ea)
+    way-low-0 : way old p j 0 ≡ wrapped (getD old even 0 + a)
+    way-low-0 = way-is old p j 0 even (2 * j) a (omega arith) (omega arith) (sym ea)
 
-    way-low-1 : way old p j 1 ≡ wrapped (getD old (2 * j + 1) 0 + b)
-    way-low-1 = way-is old p j 1 (2 * j + 1) (2 * j + 1) b (omega arith) refl (complement (p (2 * j + 1)) (paired-oldest x0 x1 y0 y1 j h))
+    way-low-1 : way old p j 1 ≡ wrapped (getD old odd 0 + b)
+    way-low-1 = way-is old p j 1 odd (2 * j + 1) b (omega arith) refl (complement (p (2 * j + 1)) (paired-oldest x0 x1 y0 y1 j h))
 
-    way-high-0 : way old p (j + 32) 0 ≡ wrapped (getD old (2 * j) 0 + b)
-    way-high-0 =
-        way-is old p (j + 32) 0 (2 * j) (2 * j + 64) b (omega arith) (omega arith) (complement (p (2 * j + 64)) (paired-newest x0 x1 y0 y1 j h))
+    way-high-0 : way old p (j + 32) 0 ≡ wrapped (getD old even 0 + b)
+    way-high-0 = way-is old p (j + 32) 0 even (2 * j + 64) b (omega arith) (omega arith) (complement (p (2 * j + 64)) (paired-newest x0 x1 y0 y1 j h))
 
-    way-high-1 : way old p (j + 32) 1 ≡ wrapped (getD old (2 * j + 1) 0 + a)
-    way-high-1 =
-        way-is old p (j + 32) 1 (2 * j + 1) (2 * j + 65) a (omega arith) (omega arith) (paired-both x0 x1 y0 y1 j h ∙ sym ea)
+    way-high-1 : way old p (j + 32) 1 ≡ wrapped (getD old odd 0 + a)
+    way-high-1 = way-is old p (j + 32) 1 odd (2 * j + 65) a (omega arith) (omega arith) (paired-both x0 x1 y0 y1 j h ∙ sym ea)
 
-    pub turning-again : (costs gaps : List ℕ) (low low-gap high high-gap : ℕ)
-        → Turning old p j costs gaps
-        → Crossed (getD old (2 * j) 0) (getD old (2 * j + 1) 0) a b low low-gap high high-gap
-        → Turning old p (j + 1) (set (set costs j low) (j + 32) high) (set (set gaps j low-gap) (j + 32) high-gap)
+    pub entered : (low low-gap high high-gap : ℕ) → Crossed (getD old even 0) (getD old odd 0) a b low low-gap high high-gap
+        → Entered old p j low low-gap high high-gap
     unfolding gapAt costAt
-    turning-again costs gaps low low-gap high high-gap turning c =
+    entered low low-gap high high-gap c =
         let g-low : low-gap ≡ gapAt old p j = c .low-by ∙ sym (ap₂ gap way-low-0 way-low-1) in
         let g-high : high-gap ≡ gapAt old p (j + 32) = c .high-by ∙ sym (ap₂ gap way-high-0 way-high-1) in
         record {
-          counted = omega arith;
-          lesser-of = halves-again (costAt old p) j costs low high (turning .lesser-of) h
-              (c .low-is ∙ ap₂ lesser (sym way-low-0) g-low) (c .high-is ∙ ap₂ lesser (sym way-high-0) g-high);
-          gap-of = halves-again (gapAt old p) j gaps low-gap high-gap (turning .gap-of) h g-low g-high;
+          low-is = c .low-is ∙ ap₂ lesser (sym way-low-0) g-low;
+          low-by = g-low;
+          high-is = c .high-is ∙ ap₂ lesser (sym way-high-0) g-high;
+          high-by = g-high;
         }
-
-pub turning-done : (old : List ℕ) (b : ℕ → ℕ) (j : ℕ) (costs gaps : List ℕ) → Turning old b j costs gaps → 32 ≤ j → Turned old b costs gaps
-turning-done old b j costs gaps turning h =
-    record { lesser-of = halves-all (costAt old b) j costs (turning .lesser-of) h; gap-of = halves-all (gapAt old b) j gaps (turning .gap-of) h }

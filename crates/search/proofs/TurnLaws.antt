@@ -10,15 +10,9 @@ use lib.ListN.{getD}
 use borrow.Author.Tests.{ltb-true, ltb-false, lt-ltb, le-ltb, le-leb, lt-leb}
 use Rattle.laws.specs.Lists.{choose}
 use Rattle.trellis.specs.Passes.{via, before, candidate, decision, best, choice}
+use Rattle.trellis.proofs.StepLaws.{best-choice, best-step}
 use Rattle.trellis.proofs.SpreadLaws.{spread-within}
-use Rattle.search.specs.Stored.{width, half, start, wrapped, gap, top, lesser, way, gapAt, costAt, above, Stored, Turned}
-
--- a and b as they are stored, less than half the width apart
-record Near (a b x y : ℕ) : Type 0 where
-  stored-a : x ≡ wrapped a
-  stored-b : y ≡ wrapped b
-  not-below : a < b + half
-  not-above : b < a + half
+use Rattle.search.specs.Stored.{width, half, start, wrapped, Near, gap, top, lesser, way, gapAt, costAt, above, Stored}
 
 module _ (a b x y : ℕ) (near : Near a b x y) where
   gap-up : a ≤ b → gap x y ≡ b - a
@@ -30,7 +24,7 @@ module _ (a b x y : ℕ) (near : Near a b x y) where
   gap-down h = omega (arith, near .stored-a, near .stored-b, near .not-below)
 
   -- the gap's top bit tells which is less
-  top-tells : top (gap x y) ≡ choose (ltb b a) 1 0
+  pub top-tells : top (gap x y) ≡ choose (ltb b a) 1 0
   unfolding top
   top-tells = go (ltb b a) refl
     where
@@ -83,6 +77,12 @@ module _ (a b x y : ℕ) (near : Near a b x y) where
       go true e = le-leb half (gap x y) (omega (arith, gap-down (ltb-true b a e), near .not-below, ltb-true b a e))
       go false e = lt-leb half (gap x y) (omega (arith, gap-up (ltb-false b a e), near .not-above))
 
+-- the number near the total that is stored so: half the width is added and taken off again
+pub nearest-is : (total x low stored m up : ℕ) → Near total x low stored → m ≡ wrapped (stored + (width - low)) → up ≡ wrapped (m + half)
+    → total + up ≡ x + half
+nearest-is total x low stored m up near em eu =
+    omega (arith, near .stored-a, near .stored-b, near .not-below, near .not-above)
+
 -- before the first step
 pub turn-none : (b : ℕ → ℕ → ℕ) (costs : List ℕ) → Stored (λ s. choose (eqb s 0) 0 start) costs → Stored (λ s. wrapped (best b start 0 s)) costs
 unfolding best
@@ -91,6 +91,18 @@ turn-none b costs started = record { all = started .all; at = λ s h. started .a
     small : (z : Bool) → choose z 0 start ≡ wrapped (choose z 0 start)
     small true = refl
     small false = refl
+
+-- a step moves the cost of state 0 by less than half the width
+pub turn-near : (b : ℕ → ℕ → ℕ) (M : ℕ) → ((t r : ℕ) → b t r ≤ M) → start + 7 * M < half → (t stored : ℕ)
+    → stored ≡ wrapped (best b start (suc t) 0) → Near (best b start t 0) (best b start (suc t) 0) (wrapped (best b start t 0)) stored
+turn-near b M most room t stored e =
+    let d = choice b start t 0 in
+    record {
+      stored-a = refl;
+      stored-b = e;
+      not-below = omega (arith, best-choice b start t 0, spread-within b start M most t 0 (before 0 d) (omega arith) (omega arith));
+      not-above = omega (arith, best-step b start t 0 0 (omega arith), most t (via 0 0));
+    }
 
 module _ (b : ℕ → ℕ → ℕ) (M : ℕ) (most : (t r : ℕ) → b t r ≤ M) (room : start + 7 * M < half) (t : ℕ) (old : List ℕ) (b′ : ℕ → ℕ)
     (same : (r : ℕ) → b′ r ≡ b t r) (held : Stored (λ s. wrapped (best b start t s)) old) where
@@ -114,27 +126,26 @@ module _ (b : ℕ → ℕ → ℕ) (M : ℕ) (most : (t r : ℕ) → b t r ≤ M
         not-above = omega (arith, down, most t (via s 1));
       }
 
-  module _ (costs gaps : List ℕ) (turned : Turned old b′ costs gaps) where
-    -- the next costs
-    pub turn-costs : Stored (λ s. wrapped (best b start (suc t) s)) costs
-    unfolding best decision costAt gapAt
-    turn-costs = record {
-      all = turned .lesser-of .all;
-      at = λ s h. turned .lesser-of .at s h ∙ lesser-tells _ _ _ _ (near s) ∙ ap wrapped (chosen s (ltb (cand s 1) (cand s 0)));
-    }
-      where
-        chosen : (s : ℕ) (z : Bool) → choose z (cand s 1) (cand s 0) ≡ cand s (choose z 1 0)
-        chosen s true = refl
-        chosen s false = refl
+  -- the next costs
+  pub turn-costs : (costs : List ℕ) → Stored (costAt old b′) costs → Stored (λ s. wrapped (best b start (suc t) s)) costs
+  unfolding best decision costAt gapAt
+  turn-costs costs stored = record {
+    all = stored .all;
+    at = λ s h. stored .at s h ∙ lesser-tells _ _ _ _ (near s) ∙ ap wrapped (chosen s (ltb (cand s 1) (cand s 0)));
+  }
+    where
+      chosen : (s : ℕ) (z : Bool) → choose z (cand s 1) (cand s 0) ≡ cand s (choose z 1 0)
+      chosen s true = refl
+      chosen s false = refl
 
-    -- the decisions
-    pub turn-word : (s : ℕ) → s < 64 → top (getD gaps s 0) ≡ choice b start t s
-    unfolding choice decision gapAt
-    turn-word s h = ap top (turned .gap-of .at s h) ∙ top-tells _ _ _ _ (near s)
+  -- the decisions
+  pub turn-word : (s : ℕ) → top (gapAt old b′ s) ≡ choice b start t s
+  unfolding choice decision gapAt
+  turn-word s = top-tells _ _ _ _ (near s)
 
-    -- and whether the other way into a state is strictly above
-    pub turn-above : (s d : ℕ) → s < 64 → d < 2 → above (getD gaps s 0) d ≡ ltb (cand s d) (cand s (1 - d))
-    unfolding gapAt
-    turn-above s zero h hd = ap (λ g. above g 0) (turned .gap-of .at s h) ∙ above-0 _ _ _ _ (near s)
-    turn-above s (suc zero) h hd = ap (λ g. above g 1) (turned .gap-of .at s h) ∙ above-1 _ _ _ _ (near s)
-    turn-above s (suc (suc d)) h hd = absurd (omega arith)
+  -- and whether the other way into a state is strictly above
+  pub turn-above : (gaps : List ℕ) → Stored (gapAt old b′) gaps → (s d : ℕ) → s < 64 → d < 2 → above (getD gaps s 0) d ≡ ltb (cand s d) (cand s (1 - d))
+  unfolding gapAt
+  turn-above gaps stored s zero h hd = ap (λ g. above g 0) (stored .at s h) ∙ above-0 _ _ _ _ (near s)
+  turn-above gaps stored s (suc zero) h hd = ap (λ g. above g 1) (stored .at s h) ∙ above-1 _ _ _ _ (near s)
+  turn-above gaps stored s (suc (suc d)) h hd = absurd (omega arith)

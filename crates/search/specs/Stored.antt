@@ -1,7 +1,9 @@
--- Path costs as they are stored: numbers that wrap round at a width, compared by their wrapped difference.
+-- Path costs as they are stored: numbers of sixteen bits that wrap round, compared by their wrapped difference.
 --   width, half     of the stored numbers
 --   start           the cost at which a state other than 0 is started in
 --   wrapped         a number as it is stored
+--   Near            two numbers as they are stored, less than half the width apart
+--   Beside          some number near the total is stored so
 --   gap             how far y lies above x, wrapped: below the half where it does, from the half on where y lies below
 --   lesser          x, or what lies a gap above it where that is less
 --   top             1 where a gap says less, else 0
@@ -10,16 +12,15 @@
 --   gapAt, costAt   the gap between the two ways into a state, and the lesser of them
 --   above           whether a gap puts the way with the other oldest bit strictly above the way with this one
 --   Crossed         the ways from an even and an odd state into a low and a high one
+--   Entered         the states j and j + 32 after a step: their costs and gaps
 --   Small           the bound on the costs of a coded bit
 --   maskAt, Masks   all ones where a register's count of ones under the taps is odd, and those of the 32 registers 2 j
 --   Stored          64 numbers, by state
---   Weights         the weights of sixteen bits
---   Turned          one step from old costs: the costs and gaps of all states
 -- Assumes nothing.
 use mathlib.Core.Path.{_≡_}
 use mathlib.Core.Bool.{Bool, false}
 use mathlib.Core.List.{List}
-use Prim.Native.Nat.{ℕ, _+_, _-_, _*_, _%_, _^_, _≤_, _<_}
+use Prim.Native.Nat.{ℕ, _+_, _-_, _*_, _%_, _≤_, _<_}
 use lib.Dec.{eqb, ltb, leb}
 use lib.ListN.{length, getD}
 use Rattle.laws.specs.Lists.{choose}
@@ -28,11 +29,11 @@ use Rattle.trellis.specs.Passes.{via, before}
 
 -- stored numbers are below this
 abbrev pub width : ℕ
-width = 4294967296
+width = 65536
 
 -- a gap from here on says less
 abbrev pub half : ℕ
-half = 2147483648
+half = 32768
 
 -- a state other than 0 is started in at this cost
 abbrev pub start : ℕ
@@ -41,6 +42,18 @@ start = 4096
 -- a number as it is stored
 abbrev pub wrapped : ℕ → ℕ
 wrapped x = x % width
+
+-- a and b as they are stored, less than half the width apart
+pub record Near (a b x y : ℕ) : Type 0 where
+  pub stored-a : x ≡ wrapped a
+  pub stored-b : y ≡ wrapped b
+  pub not-below : a < b + half
+  pub not-above : b < a + half
+
+-- some number near the total is stored so
+pub record Beside (total stored : ℕ) : Type 0 where
+  pub number : ℕ
+  pub near : Near total number (wrapped total) stored
 
 -- how far y lies above x, wrapped
 unfoldable pub gap : ℕ → ℕ → ℕ
@@ -81,6 +94,13 @@ pub record Crossed (even odd a b low low-gap high high-gap : ℕ) : Type 0 where
   pub high-by : high-gap ≡ gap (wrapped (even + b)) (wrapped (odd + a))
   pub high-is : high ≡ lesser (wrapped (even + b)) high-gap
 
+-- the states j and j + 32 after a step from old costs
+pub record Entered (old : List ℕ) (b : ℕ → ℕ) (j low low-gap high high-gap : ℕ) : Type 0 where
+  pub low-is : low ≡ costAt old b j
+  pub low-by : low-gap ≡ gapAt old b j
+  pub high-is : high ≡ costAt old b (j + 32)
+  pub high-by : high-gap ≡ gapAt old b (j + 32)
+
 -- no coded bit costs more than 255 in either pass
 pub record Small (x0 x1 y0 y1 : ℕ) : Type 0 where
   pub small-x0 : x0 ≤ 255
@@ -101,13 +121,3 @@ pub record Masks (taps : ℕ) (l : List ℕ) : Type 0 where
 pub record Stored (f : ℕ → ℕ) (l : List ℕ) : Type 0 where
   pub all : length l ≡ 64
   pub at : (s : ℕ) → s < 64 → getD l s 0 ≡ f s
-
--- the weights of sixteen bits
-pub record Weights (l : List ℕ) : Type 0 where
-  pub sixteen : length l ≡ 16
-  pub weight : (k : ℕ) → k < 16 → getD l k 0 ≡ 2 ^ k
-
--- one step from old costs
-pub record Turned (old : List ℕ) (b : ℕ → ℕ) (costs gaps : List ℕ) : Type 0 where
-  pub lesser-of : Stored (costAt old b) costs
-  pub gap-of : Stored (gapAt old b) gaps

@@ -5,22 +5,22 @@ ghost use lib.Dec.{eqb};
 ghost use Rattle.laws.specs.Lists.{choose};
 ghost use Rattle.search.specs.Bytes.{byteCost, byteHeard, agreeing, Costs};
 use crate::step::Pair;
-use coder::wide;
+use crate::step::short;
 
 // What a bit that is 0 costs; a byte of 0, not heard, is below 128.
-fn cost_of_0(byte: u8) -> u32
+fn cost_of_0(byte: u8) -> u16
     ensures { λ r. ⌜ (r ≡ byteCost byte 0) × (r ≤ 127) ⌝ }
 {
-    if 128 < byte { wide(byte) - 128 } else { 0 }
+    if 128 < byte { short(byte) - 128 } else { 0 }
 }
 
-fn cost_of_1(byte: u8) -> u32
+fn cost_of_1(byte: u8) -> u16
     ensures { λ r. ⌜ (r ≡ byteCost byte 1) × (r ≤ 127) ⌝ }
 {
     if byte == 0 {
         return 0;
     }
-    if byte < 128 { 128 - wide(byte) } else { 0 }
+    if byte < 128 { 128 - short(byte) } else { 0 }
 }
 
 pub fn pair_of(x: u8, y: u8) -> Pair
@@ -35,14 +35,14 @@ pub fn pair_of(x: u8, y: u8) -> Pair
 }
 
 // 1 for a bit that was heard.
-fn heard_of(byte: u8) -> u32
+fn heard_of(byte: u8) -> u16
     ensures { λ r. ⌜ (r ≡ byteHeard byte) × (r ≤ 1) ⌝ }
 {
     if byte == 0 { 0 } else { 1 }
 }
 
 // In the mark's pass a bit costs twice as much, and one more where it was heard and agrees with the train's own.
-fn agreeing_of(cost: u32, byte: u8, bit: u8, own: u8) -> u32
+fn agreeing_of(cost: u16, byte: u8, bit: u8, own: u8) -> u16
     requires { ⌜ cost ≤ 127 ⌝ }
     ensures { λ r. ⌜ (r ≡ 2 * cost + choose (eqb bit own) (byteHeard byte) 0) × (r ≤ 255) ⌝ }
 {

@@ -20,10 +20,10 @@ use coder::register_after;
 use coder::wide;
 use costs::own_pair;
 use forward::forward;
+use step::compare;
 use step::is_above;
 use step::masks_of;
 use step::started;
-use step::step;
 use words::follow;
 
 // Of all trains of n bits, the one of least cost; of equals, the one with 0 at the last place where the two differ. Its cost.
@@ -63,7 +63,7 @@ pub fn mark(n: usize, heard: &[u8], train: &[u8]) -> bool
             parity_of(register, X_TAPS),
             parity_of(register, Y_TAPS),
         );
-        let turn = step(costs, &xs, &ys, pair);
+        let turn = compare(costs, &xs, &ys, pair);
         let gaps = turn.gaps;
         if !is_above(gaps[(register / 2) as usize], register % 2) {
             return false;

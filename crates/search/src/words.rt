@@ -1,66 +1,56 @@
-// Decision words: bit s of a step's word is 1 where the way into state s with oldest bit 1 is the better one.
+// Decision words: the bit of state s in a step's word is 1 where the way into it with oldest bit 1 is the better one.
 ghost use mathlib.Core.Path.{_≡_};
-ghost use Prim.Native.Nat.{_+_, _-_, _*_, _/_, _%_, _^_, _<_, _≤_};
+ghost use Prim.Native.Nat.{ℕ, _+_, _-_, _*_, _/_, _%_, _^_, _<_, _≤_};
 ghost use lib.Dec.{leb};
 ghost use lib.ListN.{length, getD, set};
 ghost use Rattle.laws.specs.Lists.{choose, filled};
 ghost use Rattle.laws.specs.Packing.{packed};
-ghost use Rattle.search.specs.Stored.{top, Weights};
-ghost use Rattle.search.specs.Followed.{bitIn, followed};
-use crate::step::HALF;
+ghost use Rattle.search.specs.Stored.{top};
+ghost use Rattle.search.specs.Words.{Chosen, twoBytes, fourBytes, eightBytes, seat, bitIn};
+ghost use Rattle.search.specs.Followed.{followed};
 
-// The weights of sixteen bits.
-pub fn weights() -> [u32; 16]
-    ensures { λ r. ⌜ Weights r ⌝ }
-{
-    let mut w = [1u32; 16];
-    let mut k = 1usize;
-    while k < 16 {
-        w[k] = 2 * w[k - 1];
-        k += 1;
-    }
-    w
-}
-
-fn put(sum: u32, gap: u32, weight: u32) -> u32
-    requires { ⌜ sum + weight ≤ 65535 ⌝ }
-    ensures { λ r. ⌜ r ≡ sum + top gap * weight ⌝ }
-{
-    if gap < HALF { sum } else { sum + weight }
-}
-
-fn long(x: u32) -> u64
-    ensures { λ r. ⌜ r ≡ x ⌝ }
+fn long(x: u8) -> u64
+    ensures { λ r. ⌜ (r ≡ x) × (r < 256) ⌝ }
 {
     x as u64
 }
 
-// The word of 64 gaps, in four groups of sixteen.
-pub fn word_of(gaps: &[u32; 64], w: &[u32; 16]) -> u64
-    requires { ⌜ Weights (now w) ⌝ }
-    ensures { λ r. ⌜ r ≡ packed 64 (λ s. top (getD (now (gaps .entry)) s 0)) ⌝ }
+// Two bytes from place k on as one number, the first the lower; then four, and eight.
+fn two(bytes: &[u8; 16], k: usize) -> u64
+    requires { ⌜ k ≤ 14 ⌝ }
+    ensures { λ r. ⌜ (r ≡ twoBytes (now (bytes .entry)) k) × (r < 65536) ⌝ }
 {
-    let mut g0 = 0u32;
-    let mut g1 = 0u32;
-    let mut g2 = 0u32;
-    let mut g3 = 0u32;
-    let mut k = 0usize;
-    while k < 16 {
-        g0 = put(g0, gaps[k], w[k]);
-        g1 = put(g1, gaps[k + 16], w[k]);
-        g2 = put(g2, gaps[k + 32], w[k]);
-        g3 = put(g3, gaps[k + 48], w[k]);
-        k += 1;
-    }
-    long(g0) + 65536 * (long(g1) + 65536 * (long(g2) + 65536 * long(g3)))
+    long(bytes[k]) + 256 * long(bytes[k + 1])
 }
 
-// Bit s of a word.
-fn bit_of(word: u64, s: u64) -> u64
-    requires { ⌜ s < 64 ⌝ }
-    ensures { λ r. ⌜ (r ≡ word / 2 ^ s % 2) × (r < 2) ⌝ }
+fn four(bytes: &[u8; 16], k: usize) -> u64
+    requires { ⌜ k ≤ 12 ⌝ }
+    ensures { λ r. ⌜ (r ≡ fourBytes (now (bytes .entry)) k) × (r < 4294967296) ⌝ }
 {
-    (word >> s) % 2
+    two(bytes, k) + 65536 * two(bytes, k + 2)
+}
+
+fn eight(bytes: &[u8; 16], k: usize) -> u64
+    requires { ⌜ k ≤ 8 ⌝ }
+    ensures { λ r. ⌜ r ≡ eightBytes (now (bytes .entry)) k ⌝ }
+{
+    four(bytes, k) + 4294967296 * four(bytes, k + 4)
+}
+
+// The word of a step's choices, four to a byte: bit 8 (s % 8) + s / 8 is that of state s.
+pub fn word_of(chosen: &[u8; 16]) -> u64
+    requires { ⌜ ((j : ℕ) → j < 16 → getD (now chosen) j 0 ≤ 85) ⌝ }
+    ensures { λ r. ⌜ ((f : ℕ → ℕ) → Chosen f (now (chosen .entry)) → r ≡ packed 64 (λ p. top (f (seat p)))) ⌝ }
+{
+    eight(chosen, 0) + 2 * eight(chosen, 8)
+}
+
+// Bit p of a word.
+fn bit_of(word: u64, p: u64) -> u64
+    requires { ⌜ p < 64 ⌝ }
+    ensures { λ r. ⌜ (r ≡ word / 2 ^ p % 2) × (r < 2) ⌝ }
+{
+    (word >> p) % 2
 }
 
 // The bit that leaves the register at step t came in at step t - 6; before that the register was empty.
@@ -83,7 +73,7 @@ pub fn follow(n: usize, train: &mut [u8], words: &mut [u64])
     let mut t = n + 6;
     while 0 < t {
         t -= 1;
-        let bit = bit_of(words[t], s);
+        let bit = bit_of(words[t], 8 * (s % 8) + s / 8);
         words[t] = 0;
         put_input(train, t, bit);
         s = (2 * s + bit) % 64;

@@ -20,7 +20,7 @@ use Rattle.trellis.proofs.SpreadLaws.{spread-later}
 use Rattle.trellis.proofs.JoinLaws.{Joined, joined, joined-cost}
 use Rattle.trellis.proofs.DecodedLaws.{cheap-origin, survivor-origin}
 
-leads-low : {N t s : ℕ} {w : List ℕ} → Leads N t s w → s < 64
+pub leads-low : {N t s : ℕ} {w : List ℕ} → Leads N t s w → s < 64
 leads-low {N} {t} {s} {w} leads = rw (leads .there) at (state-low (tailed w) (tailed-bits (leads .train)) t)
 
 -- no partial train into a state costs less than the best way

@@ -125,6 +125,15 @@ pub fn random_case(random: &mut Random, call: Call) -> Case {
     case_of(random, call, train)
 }
 
+/// The longest train from soft bytes of size 80 with random signs: its cost passes what sixteen bits hold.
+pub fn dear_case(random: &mut Random) -> Case {
+    let mut case = Case::new(Call::DecodeSoft, trains::longest(random));
+    let soft: Vec<i8> = (0..case.train.size().sent).map(|_| random.pick(&[-80, 80])).collect();
+    case.soft = Lent::holding(random, &soft, soft.len());
+    train_out(random, &mut case);
+    case
+}
+
 /// A random call for a BCH: good ones, near ones, and any train that is called a BCH.
 pub fn bch_case(random: &mut Random, call: Call) -> Case {
     let train = match random.below(6) {

@@ -1,6 +1,6 @@
 //! The library against the independent implementation on random calls, and trains through noise and back.
 use crate::calls::{Call, Calls, Case, Told, BY_NUMBER, INDEPENDENT, LIBRARY, ORDINARY};
-use crate::cases::{any_counter, bch_case, drown_counter, random_case, with_noise};
+use crate::cases::{any_counter, bch_case, dear_case, drown_counter, random_case, with_noise};
 use crate::description::Description;
 use crate::ladder::{bch_rungs, rungs, BchRung, Rung};
 use crate::lent::Lent;
@@ -11,6 +11,9 @@ use juzambore::Kind;
 
 /// So many differences are printed in full, and of the others the call's numbers.
 const SHOWN: usize = 5;
+
+/// So many of the longest trains have a cost that sixteen bits do not hold.
+const DEAR: usize = 40;
 
 struct Trial {
     random: Random,
@@ -36,6 +39,10 @@ impl Trial {
     fn data(&mut self, count: usize) {
         self.every_group();
         self.every_rung();
+        for _ in 0..DEAR {
+            let case = dear_case(&mut self.random);
+            self.pass(&case);
+        }
         let mut round = 0;
         while self.tally.calls() < count || 2 * self.tally.lists() < count {
             self.random_calls([3, 3, 1, 3, 3, 2], random_case);

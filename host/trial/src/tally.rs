@@ -81,11 +81,19 @@ struct Lists {
     at_end: usize,
 }
 
+/// Decodes whose cost sixteen bits do not hold, and the greatest cost.
+#[derive(Default)]
+struct Dear {
+    decodes: usize,
+    cost: u32,
+}
+
 #[derive(Default)]
 pub struct Tally {
     answers: [[[usize; ANSWERS.len()]; 6]; 2],
     strange: usize,
     lists: Lists,
+    dear: Dear,
     bchs: Bchs,
     noise: [[Heard; STRENGTHS.len()]; SORTS.len()],
 }
@@ -130,6 +138,9 @@ impl Tally {
             Some(column) => self.answers[kind as usize][case.call as usize][column] += 1,
             None => self.strange += 1,
         }
+        if let Told::Decoded(answer) = told {
+            self.dear.count(answer.cost);
+        }
         match kind {
             Kind::Data if case.call != Call::Mapped && case.train.is_mixed() => self.lists.count(case, refusal),
             Kind::Bch if refusal == 0 => self.bchs.count(case, told, left),
@@ -169,12 +180,13 @@ impl Tally {
         println!("\ncalls by refusal, in the order of the tests; + a PDU after the first is to blame, s the sum");
         let of_data = self.print_refusals(Kind::Data);
         self.print_lists();
+        println!("{} decodes cost more than {}, the dearest {}", self.dear.decodes, u16::MAX, self.dear.cost);
         println!("\nthe same for BCH, of which ideal and soften, that know no kind, have good trains only. 12 is for");
         println!("p more PDUs, n another N, m another mode and N, a another a, * several of these, b the first bits");
         let of_bch = self.print_refusals(Kind::Bch);
         let bchs = self.bchs.print();
         self.print_noise();
-        of_data && of_bch && bchs
+        of_data && of_bch && bchs && self.dear.decodes > 0
     }
 
     /// Prints calls by refusal; whether each refusal that a call can give was seen.
@@ -259,6 +271,13 @@ fn is_given(kind: Kind, call: Call, (number, blame): (u32, Blame)) -> bool {
         _ => call != Call::Mapped,
     };
     number == 0 || is_tried && can_blame && call.can_refuse(kind, number)
+}
+
+impl Dear {
+    fn count(&mut self, cost: u32) {
+        self.decodes += usize::from(cost > u16::MAX.into());
+        self.cost = self.cost.max(cost);
+    }
 }
 
 impl Lists {

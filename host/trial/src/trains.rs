@@ -37,6 +37,11 @@ pub fn single(random: &mut Random, mode: u32) -> Description {
     finished(random, &[(mode, length)])
 }
 
+/// One PDU of mode 1, of the greatest length.
+pub fn longest(random: &mut Random) -> Description {
+    finished(random, &[(1, LONGEST)])
+}
+
 /// Lists of 2 to 16 PDUs, most of them short. One in 32 has the greatest sum.
 pub fn mixed(random: &mut Random) -> Description {
     let several = 2 + random.below(15);

@@ -64,8 +64,8 @@ parity-of-requires-2 c κs = tt
 own-pair-requires : tie.Need-own-pair-requires Inv-loop μ-loop
 own-pair-requires c κs = tt
 
-step-requires : tie.Need-step-requires Inv-loop μ-loop
-step-requires c κs =
+compare-requires : tie.Need-compare-requires Inv-loop μ-loop
+compare-requires c κs =
     let inv = c .before .before .before .before .before .before .before .before .before .before .loop .inv in
     (inv .x-masks, inv .y-masks, c .before .before .own-pair .ensures .small)
 
@@ -88,9 +88,9 @@ returns c =
     let entered = paired .before .before .before .before .before in
     let inv = entered .before .before .before .loop .inv in
     marked-not _ _ _ _ _ _ _ _ inv (entered .before .before .loop-test .taken)
-    _ _ _ _ _ _ _ (stepped .step .result .gaps) (entered .before .input-of .ensures ∙ input-is _ _ _ (inv .train)) (entered .register-after .ensures)
+    _ _ _ _ _ _ _ (stepped .compare .result .gaps) (entered .before .input-of .ensures ∙ input-is _ _ _ (inv .train)) (entered .register-after .ensures)
     (rw (← paired .before .before .parity-of .ensures, ← paired .before .parity-of2 .ensures) (paired .own-pair .ensures))
-    (stepped .step .ensures) (sym (c .before .is-above .ensures) ∙ not-true _ (c .if1 .taken))
+    (stepped .compare .ensures .0) (stepped .compare .ensures .1) (sym (c .before .is-above .ensures) ∙ not-true _ (c .if1 .taken))
 
 add-t : tie.Need-add-t Inv-loop μ-loop
 add-t c = omega arith
@@ -105,9 +105,9 @@ loop-again c =
     let entered = paired .before .before .before .before .before in
     let inv = entered .before .before .before .loop .inv in
     marking-again _ _ _ _ _ _ _ _ inv (entered .before .before .loop-test .taken)
-    _ _ _ _ _ _ _ (stepped .step .result .gaps) (entered .before .input-of .ensures ∙ input-is _ _ _ (inv .train)) (entered .register-after .ensures)
+    _ _ _ _ _ _ _ (stepped .compare .result .gaps) (entered .before .input-of .ensures ∙ input-is _ _ _ (inv .train)) (entered .register-after .ensures)
     (rw (← paired .before .before .parity-of .ensures, ← paired .before .parity-of2 .ensures) (paired .own-pair .ensures))
-    (stepped .step .ensures) (sym (c .before .before .is-above .ensures) ∙ not-false _ (c .before .if1 .left))
+    (stepped .compare .ensures .0) (stepped .compare .ensures .1) (sym (c .before .before .is-above .ensures) ∙ not-false _ (c .before .if1 .left))
 
 returns-2 : tie.Need-returns-2 Inv-loop μ-loop
 returns-2 c = marked-so _ _ _ _ _ _ _ _ (c .before .loop .inv) (omega arith)
@@ -133,7 +133,7 @@ mark-spec =
     parity-of-requires
     parity-of-requires-2
     own-pair-requires
-    step-requires
+    compare-requires
     cast-is-above
     mul-is-above
     array-read-is-above

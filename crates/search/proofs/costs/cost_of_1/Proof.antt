@@ -9,8 +9,8 @@ use Rattle.search.proofs.costs.cost_of_1.Tie as tie
 returns : tie.Need-returns
 returns c = (omega (arith, cost-1-none (c .before .args .byte) (c .if1 .taken)), omega arith)
 
-wide-requires : tie.Need-wide-requires
-wide-requires c κs = search needs
+short-requires : tie.Need-short-requires
+short-requires c κs = search needs
 
 sub-result : tie.Need-sub-result
 sub-result c = search needs
@@ -22,4 +22,4 @@ returns-3 : tie.Need-returns-3
 returns-3 c = (omega (arith, cost-1-heard (c .before .before .args .byte) (c .before .if1 .left)), omega arith)
 
 pub cost-of-1-spec : {M : Type 1} → statement M
-cost-of-1-spec = tie.close (tie.spec returns wide-requires sub-result returns-2 returns-3)
+cost-of-1-spec = tie.close (tie.spec returns short-requires sub-result returns-2 returns-3)

@@ -4,6 +4,7 @@ use mathlib.Core.Path.{_∙_, ap₂}
 use Prim.Native.Nat.{_+_, _-_}
 use borrow.Author.Needs.{needs}
 use Rattle.search.specs.Stored.{width, wrapped, gap}
+use Rattle.search.proofs.StepLaws.{lesser-by}
 use Rattle.search.proofs.step.cross.Statement.{statement}
 use Rattle.search.proofs.step.cross.Tie as tie
 
@@ -38,9 +39,9 @@ returns c =
     let at-low = at-high .before .before .before in
     record {
       low-by = at-low .minus .ensures ∙ ap₂ (λ y x. wrapped (y + (width - x))) (at-low .before .plus2 .ensures) (at-low .before .before .plus .ensures);
-      low-is = rw (← at-low .before .before .plus .ensures) (c .before .better .ensures);
+      low-is = rw (← at-low .before .before .plus .ensures) (lesser-by _ _ _ (c .before .better .ensures));
       high-by = at-high .minus2 .ensures ∙ ap₂ (λ y x. wrapped (y + (width - x))) (at-high .before .plus4 .ensures) (at-high .before .before .plus3 .ensures);
-      high-is = rw (← at-high .before .before .plus3 .ensures) (c .better2 .ensures);
+      high-is = rw (← at-high .before .before .plus3 .ensures) (lesser-by _ _ _ (c .better2 .ensures));
     }
 
 pub cross-spec : {M : Type 1} → statement M

@@ -26,6 +26,12 @@ mul-bit-of c = omega arith
 slice-read-bit-of : tie.Need-slice-read-bit-of Inv-loop μ-loop
 slice-read-bit-of c = omega arith
 
+mul-bit-of-2 : tie.Need-mul-bit-of-2 Inv-loop μ-loop
+mul-bit-of-2 c = omega arith
+
+add-bit-of : tie.Need-add-bit-of Inv-loop μ-loop
+add-bit-of c = omega arith
+
 bit-of-requires : tie.Need-bit-of-requires Inv-loop μ-loop
 bit-of-requires c κs = omega arith
 
@@ -81,6 +87,8 @@ follow-spec =
     sub-t
     mul-bit-of
     slice-read-bit-of
+    mul-bit-of-2
+    add-bit-of
     bit-of-requires
     mul-words
     slice-write-words
