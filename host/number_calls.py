@@ -63,24 +63,25 @@ def soften_call(train, i, q, room):
     return line, " ".join(map(str, [no, *lent(soft, room, MARK_SOFT)]))
 
 
-def answered(train, room_octets, room_words, no, symbols, sent, cost, mark, octets):
+def answered(train, room_octets, room_words, answer):
     """The line of a decode: at the end how many words are zero, and where those end that are as they were."""
-    left = bytes(lent([*octets], room_octets))
-    zero = 0 if no else length_of(pdus_of(train)) + 6
-    return f"{no} {symbols} {sent} {cost} {mark} {left.hex()} {zero} {room_words}"
+    left = bytes(lent([*answer.octets], room_octets))
+    zero = 0 if answer.refusal else length_of(pdus_of(train)) + 6
+    told = answer.refusal, answer.symbols, answer.n, answer.cost, answer.mark, answer.comparisons
+    return " ".join(map(str, [*told, left.hex(), zero, room_words]))
 
 
 def decode_soft_call(train, counter, a, soft, room_octets, room_words):
     line = f"decode_soft {train.kind} {written(train)} {counter} {a} {signed(soft, 2)} {room_octets} {room_words}"
     answer = decode_soft(train, counter, a, soft, room_octets, room_words)
-    return line, answered(train, room_octets, room_words, *answer)
+    return line, answered(train, room_octets, room_words, answer)
 
 
 def decode_readings_call(train, counter, a, i, q, room_octets, room_words):
     readings = f"{signed(i, 4)} {signed(q, 4)}"
     line = f"decode_readings {train.kind} {written(train)} {counter} {a} {readings} {room_octets} {room_words}"
     answer = decode_readings(train, counter, a, i, q, room_octets, room_words)
-    return line, answered(train, room_octets, room_words, *answer)
+    return line, answered(train, room_octets, room_words, answer)
 
 
 def recorded_calls(kind):
@@ -219,10 +220,10 @@ def decode_calls():
         n, counter = lengths_of(mode)[0], (3 * mode + 5) % 16
         train, a, octets = listed((mode, n)), n - 72, drawn(f"decode {mode}", n // 8)
         zeros = [0] * sent_of(pdus_of(train))
-        assert decode_soft(train, counter, a, zeros, n // 8, n + 6)[3:] == (0, "D", octets_of(scrambled([0] * n, counter)))
+        assert decode_soft(train, counter, a, zeros, n // 8, n + 6)[3:6] == (0, "D", octets_of(scrambled([0] * n, counter)))
         yield decode_soft_call(train, counter, a, zeros, n // 8, n + 6 + mode)
         i, q = ideal_readings(train, counter, a, octets)
-        assert decode_readings(train, counter, a, i, q, n // 8, n + 6)[3:] == (0, "C", octets)
+        assert decode_readings(train, counter, a, i, q, n // 8, n + 6)[3:6] == (0, "C", octets)
         yield decode_readings_call(train, counter, a, i, q, n // 8 + mode % 4, n + 6)
         soft = softened(pdus_of(train), i, q)
         for k, most in enumerate((5, 20)):
@@ -266,7 +267,7 @@ def refused_decodes():
     for mode, n, n_sent in (1, 72, 144), (4, 72, 96), (7, 432, 576):
         call = listed((mode, n)), 4, 0, noise(f"size {n}", n_sent, 9), n // 8, n + 6
         answer = decode_soft(*call)
-        assert answer[0] == 0 and answer[2] == n_sent
+        assert answer.refusal == 0 and answer.n == n_sent
         yield decode_soft_call(*call)
 
 
@@ -338,7 +339,7 @@ def mixed_decodes():
         pdus, n = pdus_of(train), length_of(pdus_of(train))
         octets, carriers = drawn(f"heard {k}", n // 8), len(carriers_of(pdus))
         i, q = ideal_readings(train, counter, a, octets)
-        assert decode_readings(train, counter, a, i, q, n // 8, n + 6)[3:] == (0, "C", octets)
+        assert decode_readings(train, counter, a, i, q, n // 8, n + 6)[3:6] == (0, "C", octets)
         if k % 2 == 0:
             yield decode_readings_call(train, counter, a, i, q, n // 8 + 1, n + 7)
             yield soften_call(train, noise(f"any i {k}", carriers, 2600), noise(f"any q {k}", carriers, 2600), sent_of(pdus) + 1)
@@ -481,14 +482,14 @@ def bch_decodes():
     counters that are given are not read. Where noise takes the counter another one may be found."""
     train, (_, a) = bch((1, 120)), BCH
     zeros = decode_soft(train, 99, a, [0] * 240, 15, 126)
-    assert zeros[3:] == (0, "D", octets_of(inputs("bch", 0, [0] * 120)))
+    assert zeros[3:6] == (0, "D", octets_of(inputs("bch", 0, [0] * 120)))
     for byte in (0, 1, -1):
         yield decode_soft_call(train, 99, a, [byte] * 240, 15 + abs(byte), 130)
     clear = [(octets, [24 if bit == "1" else -24 for bit in bits])
              for recorded_train, _, _, octets, bits in recorded(VECTORS) if recorded_train.kind == "bch"]
     clear += [(octets, softened(BCH[0], *ideal_readings(*call, octets))) for *call, octets in map(made_bch, range(16))]
     for k, (octets, soft) in enumerate(clear):
-        assert decode_soft(train, MOST, a, soft, 15, 126)[3:] == (0, "C", octets)
+        assert decode_soft(train, MOST, a, soft, 15, 126)[3:6] == (0, "C", octets)
         yield decode_soft_call(train, (0, 15, 16, 99, MOST)[k % 5], a, soft, 15 + k % 2, 126)
     yield from noisy_bchs(clear)
 
@@ -500,7 +501,7 @@ def noisy_bchs(clear):
     for k, (octets, soft) in enumerate(clear[:12]):
         heard = noisy(f"bch {k}", soft, 30, 80) if k % 3 != 1 else soft
         heard = without_counter(f"counter {k}", heard, 60) if k % 3 else heard
-        found.append((counter_of(bits_of(octets)), counter_of(bits_of(decode_soft(train, 0, a, heard, 15, 126)[-1]))))
+        found.append((counter_of(bits_of(octets)), counter_of(bits_of(decode_soft(train, 0, a, heard, 15, 126).octets))))
         yield decode_soft_call(train, 3 * k, a, heard, 15, 126)
     assert {sent == told for sent, told in found} == {True, False}
     for k in range(6):

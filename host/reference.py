@@ -2,8 +2,8 @@
 """The whole modem in plain Python: slow, obvious, and written from the documents alone.
 
 It follows clauses 5.2 to 5.5 of ETSI TS 101 475 and, where that leaves something open, the project's own rules
-(document 01, and the requests for lists of PDUs and for BCH). It shares no code, table or definition with the crates,
-so that an agreement of the two means something.
+(document 01, and the requests for lists of PDUs, for BCH and for the count of comparisons). It shares no code, table or
+definition with the crates, so that an agreement of the two means something.
 
     python3 host/reference.py check FILE     encode the trains in FILE and count those that agree
     python3 host/reference.py decoded FILE   decode the soft bytes of each line of FILE and count those that agree
@@ -20,6 +20,8 @@ import hashlib
 import struct
 import sys
 from collections import namedtuple
+from functools import cache
+from itertools import product
 from math import isqrt
 
 # Table 1: bits per carrier, code rate, sent bits per symbol, information bits per symbol.
@@ -269,6 +271,31 @@ def best_train(n, cost):
     return spent, [train >> t & 1 for t in range(n)]
 
 
+@cache
+def comparisons(n):
+    """The pairs (step, state) into which partial trains with different oldest bits lead: of the states that partial trains of
+    n bits have reached, step by step, the lowest bit is the oldest with the next input."""
+    count, reached = 0, {0}
+    for t in range(n + 6):
+        oldest = {}
+        for state in reached:
+            for bit in (0, 1) if t < n else (0,):
+                oldest.setdefault(STEP[state, bit][2], set()).add(state & 1)
+        count += sum(len(bits) == 2 for bits in oldest.values())
+        reached = oldest.keys()
+    return count
+
+
+def comparisons_by_trains(n):
+    """The same by the request's own words: every beginning of every train of n bits with its six zeros."""
+    oldest = {}
+    for train in product((0, 1), repeat=n):
+        past = (0,) * 6 + train + (0,) * 6
+        for t in range(n + 6):
+            oldest.setdefault((t, past[t + 1:t + 7]), set()).add(past[t])
+    return sum(len(bits) == 2 for bits in oldest.values())
+
+
 def least_rival(n, gain, train):
     """The least sum of gains over the trains of n bits but this one. gain[t] gives that of each pair X, Y at input t; a state
     is kept twice, for trains that have differed by then and for the one that has not."""
@@ -395,7 +422,8 @@ def soften(train, i, q, room):
     return (no, []) if no else (0, softened(pdus, i, q))
 
 
-NOTHING = (0, 0, 0, "-", b"")
+# What a decode answers.
+Answer = namedtuple("Answer", "refusal symbols n cost mark octets comparisons", defaults=[0, 0, 0, "-", b"", 0])
 
 
 def is_short(pdus, room_octets, room_words):
@@ -404,11 +432,13 @@ def is_short(pdus, room_octets, room_words):
 
 def answer(train, counter, a, soft):
     pdus = pdus_of(train)
-    return 0, symbols_of(pdus), len(soft), *decoded(train.kind, pdus, counter, a, soft)
+    found = decoded(train.kind, pdus, counter, a, soft)
+    return Answer(0, symbols_of(pdus), len(soft), *found, comparisons(length_of(pdus)))
 
 
 def decode_soft(train, counter, a, soft, room_octets, room_words):
-    """The refusal, symbols, n, the rounded cost, the mark (C confirmed, D done, - refused) and the octets."""
+    """The refusal, symbols, n, the rounded cost, the mark (C confirmed, D done, - refused), the octets and the
+    comparisons."""
     no, pdus = decode_refusal(train, counter, a), pdus_of(train)
     if no == 0 and len(soft) != sent_of(pdus):
         no = 7
@@ -416,7 +446,7 @@ def decode_soft(train, counter, a, soft, room_octets, room_words):
         no = 8
     if no == 0 and any(not -80 <= byte <= 80 for byte in soft):
         no = 9
-    return (no, *NOTHING) if no else answer(train, counter, a, soft)
+    return Answer(no) if no else answer(train, counter, a, soft)
 
 
 def decode_readings(train, counter, a, i, q, room_octets, room_words):
@@ -424,7 +454,7 @@ def decode_readings(train, counter, a, i, q, room_octets, room_words):
     no, pdus = readings_refusal(decode_refusal(train, counter, a), train, i, q), pdus_of(train)
     if no == 0 and is_short(pdus, room_octets, room_words):
         no = 8
-    return (no, *NOTHING) if no else answer(train, counter, a, softened(pdus, i, q))
+    return Answer(no) if no else answer(train, counter, a, softened(pdus, i, q))
 
 
 # Document 01, "Numbers to hold against": bits on the axis, bit, reading, soft byte.
@@ -453,6 +483,8 @@ def known():
     for kind, (counter, octets, found) in WORKED.items():
         assert text(inputs(kind, counter, bits_of(bytes.fromhex(octets)))).startswith(found)
     assert text(in_turn(*coded([1, 0, 0, 0, 0, 0, 0]))) == "11011111001011"
+    for n in range(6, 11):
+        assert comparisons_by_trains(n) == comparisons(n) == 64 * (n - 6) + 63
     for mode, k, j in ((1, 1, 3), (1, 17, 4), (5, 1, 13), (5, 2, 24), (7, 1, 20), (7, 17, 18)):
         assert place(k, MODES[mode]) == j
     for d, k in ((1, 0x3F800000), (2, 0x3F3504F3), (10, 0x3EA1E89B), (42, 0x3E1E01B3)):
@@ -541,7 +573,7 @@ def main(words):
         sys.exit(0 if trains and same == len(trains) else 1)
     elif words[:1] == ["decoded"] and len(words) == 2:
         calls = list(recorded_decodes(words[1]))
-        same = sum(decode_soft(*call, n // 8, n + 6) == told
+        same = sum(decode_soft(*call, n // 8, n + 6)[:-1] == told
                    for *call, told in calls for n in [length_of(pdus_of(call[0]))])
         print(f"{same} of {len(calls)} decodes agree")
         sys.exit(0 if calls and same == len(calls) else 1)

@@ -2,21 +2,24 @@
 // output. What a line says of a record is `record::line_of`; here is only reading and printing.
 use libc::STDIN_FILENO;
 use libc::STDOUT_FILENO;
-use modem::Answer;
+use record::Line;
 
 fn print_number(number: u32) {
     io::print_decimal(STDOUT_FILENO, number as u64);
     io::write_all(STDOUT_FILENO, b" ");
 }
 
-fn print_line(k: u64, answer: Answer) {
+fn print_line(k: u64, line: Line) {
     io::print_decimal(STDOUT_FILENO, k);
     io::write_all(STDOUT_FILENO, b" ");
-    print_number(answer.refusal);
-    print_number(answer.symbols);
-    print_number(answer.n);
-    print_number(answer.cost);
-    io::write_all(STDOUT_FILENO, &[record::mark_of(answer), b'\n']);
+    print_number(line.refusal);
+    print_number(line.symbols);
+    print_number(line.n);
+    print_number(line.cost);
+    io::write_all(
+        STDOUT_FILENO,
+        &[record::mark_of(line.refusal, line.confirmed), b'\n'],
+    );
 }
 
 // Reads record k and prints its line; false where the input has ended.

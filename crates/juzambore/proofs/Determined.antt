@@ -23,18 +23,18 @@ flag-one zero (suc (suc c′)) h h′ e = absurd (omega arith)
 flag-one (suc zero) (suc (suc c′)) h h′ e = absurd (omega arith)
 flag-one (suc (suc c)) c′ h h′ e = absurd (omega arith)
 
-pub juzambore-soft-determined : (kind : Kind) (ps : List Pdu) (counter a : ℕ) (soft : List ℤ) (octets words : List ℕ) (r r′ s s′ n n′ k k′ c c′ : ℕ) (o o′ w w′ : List ℕ)
-    → DecodeSoft kind ps counter a soft octets words r (outcome s n k (eqb c 1) o w) → c ≤ 1
-    → DecodeSoft kind ps counter a soft octets words r′ (outcome s′ n′ k′ (eqb c′ 1) o′ w′) → c′ ≤ 1
-    → (r ≡ r′) × (c ≡ c′) × (outcome s n k (eqb c 1) o w ≡ outcome s′ n′ k′ (eqb c′ 1) o′ w′)
-juzambore-soft-determined kind ps counter a soft octets words r r′ s s′ n n′ k k′ c c′ o o′ w w′ p low p′ low′ =
-    let (same, left) = decode-soft-determined kind ps counter a soft octets words r r′ _ _ p p′ in
+pub juzambore-soft-determined : (kind : Kind) (ps : List Pdu) (counter a : ℕ) (soft : List ℤ) (octets words : List ℕ) (r r′ s s′ n n′ k k′ c c′ p p′ : ℕ) (o o′ w w′ : List ℕ)
+    → DecodeSoft kind ps counter a soft octets words r (outcome s n k (eqb c 1) p o w) → c ≤ 1
+    → DecodeSoft kind ps counter a soft octets words r′ (outcome s′ n′ k′ (eqb c′ 1) p′ o′ w′) → c′ ≤ 1
+    → (r ≡ r′) × (c ≡ c′) × (outcome s n k (eqb c 1) p o w ≡ outcome s′ n′ k′ (eqb c′ 1) p′ o′ w′)
+juzambore-soft-determined kind ps counter a soft octets words r r′ s s′ n n′ k k′ c c′ p p′ o o′ w w′ h low h′ low′ =
+    let (same, left) = decode-soft-determined kind ps counter a soft octets words r r′ _ _ h h′ in
     (same, flag-one c c′ low low′ (λ t. left t .confirmed), left)
 
-pub juzambore-readings-determined : (kind : Kind) (ps : List Pdu) (counter a : ℕ) (i q : List ℤ) (octets words : List ℕ) (r r′ s s′ n n′ k k′ c c′ : ℕ) (o o′ w w′ : List ℕ)
-    → DecodeReadings kind ps counter a i q octets words r (outcome s n k (eqb c 1) o w) → c ≤ 1
-    → DecodeReadings kind ps counter a i q octets words r′ (outcome s′ n′ k′ (eqb c′ 1) o′ w′) → c′ ≤ 1
-    → (r ≡ r′) × (c ≡ c′) × (outcome s n k (eqb c 1) o w ≡ outcome s′ n′ k′ (eqb c′ 1) o′ w′)
-juzambore-readings-determined kind ps counter a i q octets words r r′ s s′ n n′ k k′ c c′ o o′ w w′ p low p′ low′ =
-    let (same, left) = decode-readings-determined kind ps counter a i q octets words r r′ _ _ p p′ in
+pub juzambore-readings-determined : (kind : Kind) (ps : List Pdu) (counter a : ℕ) (i q : List ℤ) (octets words : List ℕ) (r r′ s s′ n n′ k k′ c c′ p p′ : ℕ) (o o′ w w′ : List ℕ)
+    → DecodeReadings kind ps counter a i q octets words r (outcome s n k (eqb c 1) p o w) → c ≤ 1
+    → DecodeReadings kind ps counter a i q octets words r′ (outcome s′ n′ k′ (eqb c′ 1) p′ o′ w′) → c′ ≤ 1
+    → (r ≡ r′) × (c ≡ c′) × (outcome s n k (eqb c 1) p o w ≡ outcome s′ n′ k′ (eqb c′ 1) p′ o′ w′)
+juzambore-readings-determined kind ps counter a i q octets words r r′ s s′ n n′ k k′ c c′ p p′ o o′ w w′ h low h′ low′ =
+    let (same, left) = decode-readings-determined kind ps counter a i q octets words r r′ _ _ h h′ in
     (same, flag-one c c′ low low′ (λ t. left t .confirmed), left)

@@ -28,6 +28,7 @@ pub struct JuzamboreAnswer {
     pub n: u32,
     pub cost: u32,
     pub confirmed: u32,
+    pub comparisons: u32,
 }
 
 // 0 is data, any other number BCH.
@@ -112,7 +113,7 @@ pub extern "C" fn juzambore_decode_soft(
     octets: &mut [u8],
     words: &mut [u64],
 ) -> JuzamboreAnswer
-    ensures { λ r. ⌜ DecodeSoft (kindOf kind) (pdusOf count (now (modes .entry)) (now (lengths .entry))) counter a (now (soft .entry)) (now (octets .entry)) (now (words .entry)) (r .refusal) (outcome (r .symbols) (r .n) (r .cost) (eqb (r .confirmed) 1) (now (octets .exit)) (now (words .exit))) ⌝ }
+    ensures { λ r. ⌜ DecodeSoft (kindOf kind) (pdusOf count (now (modes .entry)) (now (lengths .entry))) counter a (now (soft .entry)) (now (octets .entry)) (now (words .entry)) (r .refusal) (outcome (r .symbols) (r .n) (r .cost) (eqb (r .confirmed) 1) (r .comparisons) (now (octets .exit)) (now (words .exit))) ⌝ }
     ensures flag { λ r. ⌜ r .confirmed ≤ 1 ⌝ }
 {
     let kind = kind_of(kind);
@@ -123,6 +124,7 @@ pub extern "C" fn juzambore_decode_soft(
         n: answer.n,
         cost: answer.cost,
         confirmed: flag(answer.confirmed),
+        comparisons: answer.comparisons,
     }
 }
 
@@ -139,7 +141,7 @@ pub extern "C" fn juzambore_decode_readings(
     octets: &mut [u8],
     words: &mut [u64],
 ) -> JuzamboreAnswer
-    ensures { λ r. ⌜ DecodeReadings (kindOf kind) (pdusOf count (now (modes .entry)) (now (lengths .entry))) counter a (now (i .entry)) (now (q .entry)) (now (octets .entry)) (now (words .entry)) (r .refusal) (outcome (r .symbols) (r .n) (r .cost) (eqb (r .confirmed) 1) (now (octets .exit)) (now (words .exit))) ⌝ }
+    ensures { λ r. ⌜ DecodeReadings (kindOf kind) (pdusOf count (now (modes .entry)) (now (lengths .entry))) counter a (now (i .entry)) (now (q .entry)) (now (octets .entry)) (now (words .entry)) (r .refusal) (outcome (r .symbols) (r .n) (r .cost) (eqb (r .confirmed) 1) (r .comparisons) (now (octets .exit)) (now (words .exit))) ⌝ }
     ensures flag { λ r. ⌜ r .confirmed ≤ 1 ⌝ }
 {
     let kind = kind_of(kind);
@@ -161,5 +163,6 @@ pub extern "C" fn juzambore_decode_readings(
         n: answer.n,
         cost: answer.cost,
         confirmed: flag(answer.confirmed),
+        comparisons: answer.comparisons,
     }
 }

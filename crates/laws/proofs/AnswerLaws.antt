@@ -7,6 +7,12 @@ use lib.Dec.{eqb}
 use borrow.Author.Tests.{eqb-true, eqb-false}
 use Rattle.laws.specs.Answers.{Leaves, Answers}
 
+-- of two tests that each say whether something holds, each is the other
+pub same-test : (x y : Bool) (A : Type 0) → (x ≡ true → A) → (A → x ≡ true) → (y ≡ true → A) → (A → y ≡ true) → x ≡ y
+same-test true y A to from to′ from′ = sym (from′ (to refl))
+same-test false true A to from to′ from′ = from (to′ refl)
+same-test false false A to from to′ from′ = refl
+
 module _ {B : Type 0} (number : ℕ) (Wanted : B → Type 0) (before : B) where
   pub refused-with : (r : ℕ) → r ≡ number → (r ≡ 0 → ⊥) → Leaves number Wanted before r before
   refused-with r e h = record { answer = e; done = λ z. absurd (h z); refused = λ _. refl }

@@ -1,4 +1,4 @@
--- Laws of packed and of written bits: their bound, one bit read, two parts joined and taken apart.
+-- Laws of packed and of written bits: their bound, one bit read, all of them, two parts joined and taken apart.
 -- Assumes nothing.
 use mathlib.Core.Path.{_≡_, refl, ap, ap₂, _∙_}
 use Prim.Native.Nat.{ℕ, zero, suc, _+_, _-_, _*_, _/_, _%_, _^_, _<_}
@@ -41,6 +41,15 @@ packed-bit (suc n) f bits (suc s) h =
     let half : (f 0 + 2 * packed n (λ k. f (suc k))) / 2 ≡ packed n (λ k. f (suc k)) = omega (arith, bits 0) in
     rw (packed-first n f, pow-succ' 2 s, ← div-div-eq-div-mul (f 0 + 2 * packed n (λ k. f (suc k))) 2 (2 ^ s), half)
     (packed-bit n (λ k. f (suc k)) (λ k. bits (suc k)) s (omega arith))
+
+-- a number is its bits, packed
+pub packed-bits : (n v : ℕ) → v < 2 ^ n → packed n (λ i. v / 2 ^ i % 2) ≡ v
+unfolding packed
+packed-bits zero v h = omega arith
+packed-bits (suc n) v h =
+    let higher : (i : ℕ) → i < n → v / 2 ^ suc i % 2 ≡ v / 2 / 2 ^ i % 2 = λ i _. rw (pow-succ' 2 i, ← div-div-eq-div-mul v 2 (2 ^ i)) in
+    packed-first n (λ i. v / 2 ^ i % 2)
+    ∙ rw (packed-ext n _ _ higher, packed-bits n (v / 2) (omega (arith, rw (pow-suc 2 n) at h))) (omega arith)
 
 -- two parts joined
 pub packed-join : (m n : ℕ) (f : ℕ → ℕ) → packed (m + n) f ≡ packed m f + 2 ^ m * packed n (λ s. f (m + s))

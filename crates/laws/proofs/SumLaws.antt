@@ -1,14 +1,15 @@
--- Laws of sums over the numbers below a bound: equal terms, no terms, one term, terms in pairs, sums of sums.
+-- Laws of sums over the numbers below a bound: equal terms, no terms, one term, terms in pairs, sums of sums, a count.
 -- Assumes nothing.
 use mathlib.Core.Path.{_≡_, refl, sym, ap, ap₂, _∙_}
 use mathlib.Core.Bool.{Bool, true, false}
 use mathlib.Core.Logic.{_≢_}
-use Prim.Native.Nat.{ℕ, zero, suc, _+_, _*_, _<_}
+use Prim.Native.Nat.{ℕ, zero, suc, _+_, _*_, _≤_, _<_}
 use native.Mathlib.Nat.{not-suc-le-zero}
 use native.Mathlib.Numerals.{add-one}
 use native.Mathlib.Omega.{arith}
-use lib.Dec.{eqb}
-use borrow.Author.Tests.{eqb-true, eqb-false}
+use lib.Dec.{ltb, eqb}
+use borrow.Author.Tests.{ltb-true, ltb-false, lt-ltb, eqb-true, eqb-false}
+use Rattle.laws.specs.Lists.{choose}
 use Rattle.laws.specs.Sums.{total}
 
 -- sums of equal terms are equal
@@ -63,3 +64,18 @@ pub total-swap : (n m : ℕ) (f : ℕ → ℕ → ℕ) → total n (λ i. total 
 unfolding total
 total-swap zero m f = sym (total-none m (λ j. 0) (λ k h. refl))
 total-swap (suc n) m f = ap (λ s. s + total m (f n)) (total-swap n m f) ∙ sym (total-add m (λ j. total n (λ i. f i j)) (f n))
+
+-- of the numbers below n, as many are below k as k says
+count-all : (n k : ℕ) → n ≤ k → total n (λ s. choose (ltb s k) 1 0) ≡ n
+unfolding total
+count-all zero k h = refl
+count-all (suc n) k h = rw (count-all n k (omega arith), lt-ltb n k (omega arith)) (omega arith)
+
+pub count-below : (n k : ℕ) → k ≤ n → total n (λ s. choose (ltb s k) 1 0) ≡ k
+unfolding total
+count-below zero k h = omega arith
+count-below (suc n) k h = go (count-below n k) (ltb n k) refl
+  where
+    go : (k ≤ n → total n (λ s. choose (ltb s k) 1 0) ≡ k) → (x : Bool) → ltb n k ≡ x → total n (λ s. choose (ltb s k) 1 0) + choose x 1 0 ≡ k
+    go fewer true e = rw (count-all n k (omega (arith, ltb-true n k e))) (omega (arith, ltb-true n k e))
+    go fewer false e = rw (fewer (ltb-false n k e)) (omega arith)

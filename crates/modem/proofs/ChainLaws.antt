@@ -3,7 +3,8 @@
 use mathlib.Core.Path.{_≡_, refl, sym, _∙_, ap, subst}
 use mathlib.Core.Bool.{true, not}
 use mathlib.Core.List.{List, [], _∷_, _++_}
-use Prim.Native.Nat.{ℕ, suc, _+_, _≤_, _<_}
+use Prim.Native.Nat.{ℕ, suc, _+_, _-_, _*_, _≤_, _<_}
+use native.Mathlib.Omega.{arith}
 use lib.IntN.{ℤ}
 use lib.ListN.{length, getD, take, drop}
 use lib.Seq.{take-at, drop-at}
@@ -22,6 +23,7 @@ use Rattle.modes.proofs.KindLaws.{heeded-described, encode-described, encode-le
 use Rattle.places.specs.Trains.{listed}
 use Rattle.points.specs.Levels.{allBits}
 use Rattle.trellis.specs.Wanted.{Returned, Confirmed}
+use Rattle.trellis.proofs.CompareLaws.{formula-compares}
 use Rattle.modem.specs.Entering.{entering}
 use Rattle.modem.specs.Sent.{sentBy}
 use Rattle.modem.specs.Encode.{sentBit, encodeRefusal, Encode}
@@ -96,10 +98,10 @@ module _ (kind : Kind) (ps : List Pdu) (counter a : ℕ) (octets sent sent′ : 
           ap (take (carriersOf ps)) on-q ∙ filled-take (carriersOf ps) _ q,
         )
 
-  -- the outcome that is wanted of ideal readings: the octets, at no cost and confirmed
+  -- the outcome that is wanted of ideal readings: the octets, at no cost and confirmed, by as many comparisons as ever
   given : (octets₀ words₀ : List ℕ) → Outcome
   given octets₀ words₀ =
-      outcome (symbolsOf ps) (sentOf ps) 0 true (octets ++ drop (octetsOf (lengthOf ps)) octets₀) (filled (lengthOf ps + 6) (λ _. 0) words₀)
+      outcome (symbolsOf ps) (sentOf ps) 0 true (64 * (lengthOf ps - 6) + 63) (octets ++ drop (octetsOf (lengthOf ps)) octets₀) (filled (lengthOf ps + 6) (λ _. 0) words₀)
 
   module _ (low : (k : ℕ) → getD octets k 0 < 256) (octets₀ words₀ : List ℕ) where
     front : take (octetsOf (lengthOf ps)) (octets ++ drop (octetsOf (lengthOf ps)) octets₀) ≡ octets
@@ -125,6 +127,7 @@ module _ (kind : Kind) (ps : List Pdu) (counter a : ℕ) (octets sent sent′ : 
           };
           all-symbols = refl;
           all-sent = refl;
+          compared = formula-compares N _ (omega (arith, legal .inside)) refl;
         }
 
     given-wanted : octetsOf (lengthOf ps) ≤ length octets₀ → lengthOf ps + 6 ≤ length words₀

@@ -1,6 +1,7 @@
--- THE THREE DEMANDS, each from the promises of the calls: it speaks of what the calls do.
+-- THE THREE DEMANDS, each from the promises of the calls: it speaks of what the calls do. And of a later request, how many comparisons a
+-- decode reports.
 -- Assumes nothing.
-use mathlib.Core.Path.{_≡_, refl, _∙_, ap}
+use mathlib.Core.Path.{_≡_, refl, sym, _∙_, ap}
 use mathlib.Core.List.{List}
 use Prim.Native.Nat.{ℕ, _+_, _≤_, _<_}
 use native.Mathlib.Omega.{arith}
@@ -10,16 +11,19 @@ use lib.ListN.{length, getD, take, drop}
 use Rattle.laws.specs.Ladder.{ladder}
 use Rattle.laws.specs.Lists.{filled}
 use Rattle.laws.specs.Answers.{Leaves}
+use Rattle.laws.proofs.LadderLaws.{given-passed}
 use Rattle.laws.proofs.ListLaws.{filled-at, filled-drop}
 use Rattle.modes.specs.declared.Kind.{Kind}
 use Rattle.modes.specs.declared.Kind.the-variants.{Bch}
 use Rattle.modes.specs.Kinds.{heeded}
 use Rattle.modes.specs.Sizes.{octetsOf}
 use Rattle.modes.specs.Pdus.{Pdu, one, sumOf, lengthOf, carriersOf, sentOf}
-use Rattle.modes.specs.Refusals.{encodeDescribed}
-use Rattle.modes.proofs.KindLaws.{encode-legal, bch-described}
+use Rattle.modes.specs.Refusals.{encodeDescribed, decodeDescribed}
+use Rattle.modes.proofs.KindLaws.{encode-legal, heeded-described, bch-described}
 use Rattle.trellis.specs.Wanted.{Returned, Confirmed}
+use Rattle.trellis.specs.Compared.{Comparisons}
 use Rattle.trellis.proofs.WantedLaws.{returned-unique}
+use Rattle.trellis.proofs.CompareLaws.{compares-formula}
 use Rattle.unique.specs.Sameness.{Octets}
 use Rattle.modem.specs.Entering.{entering}
 use Rattle.modem.specs.Sent.{sentBy}
@@ -29,7 +33,7 @@ use Rattle.modem.specs.Point.{plusZero, mappedRefusal, MapsTo}
 use Rattle.modem.specs.Soften.{softened, softenRefusal, Soften}
 use Rattle.modem.specs.Costs.{roundedCost}
 use Rattle.modem.specs.Decode.{Outcome, nothing, trainOf, softRefusal, DecodeSoft, readingsRefusal, DecodeReadings}
-use Rattle.modem.specs.Demands.{RefusesAs, SentAs, EntersAs, ReadAs, PointAs, ReturnedAs, GivenBack, Trusted}
+use Rattle.modem.specs.Demands.{RefusesAs, SentAs, EntersAs, ReadAs, PointAs, ReturnedAs, GivenBack, Trusted, ComparedAs}
 use Rattle.modem.proofs.LentLaws.{lent-passed, done-passed}
 use Rattle.modem.proofs.SizeLaws.{octets-whole}
 use Rattle.modem.proofs.EnteringLaws.{own-counter, bch-enters, entering-unique}
@@ -166,3 +170,31 @@ demand-3 kind ps counter a i q octets words o h =
       always-then = chosen .always-then;
       alone = λ sure v train apart. omega (arith, chosen .only-then sure v train apart, costs-near ps a i q w v);
     }
+
+-- ---- a later request: how many comparisons a decode reports
+
+-- a decode that is not refused has 72 bits at least
+long : (kind : Kind) (ps : List Pdu) (counter a : ℕ) → ladder (decodeDescribed kind ps counter a) ≡ 0 → 6 ≤ lengthOf ps
+long kind ps counter a zero =
+    omega (arith, encode-legal kind ps (heeded kind counter) a (heeded-described kind ps counter a ∙ zero) .inside)
+
+compared : (ps : List Pdu) (number : ℕ) (Wanted : Outcome → Type 0) (octets words : List ℕ) (r : ℕ) (o : Outcome)
+    → (number ≡ 0 → 6 ≤ lengthOf ps) → (Wanted o → Comparisons (lengthOf ps) (o .comparisons))
+    → Leaves number Wanted (nothing octets words) r o → ComparedAs (lengthOf ps) r (o .comparisons)
+compared ps number Wanted octets words r o fits wanted h = record {
+  counted = λ z. wanted (h .done z);
+  formula = λ z. compares-formula (lengthOf ps) _ (fits (sym (h .answer) ∙ z)) (wanted (h .done z));
+  none = λ no. ap (λ (x : Outcome). x .comparisons) (h .refused no);
+}
+
+pub comparisons-decode-soft : (kind : Kind) (ps : List Pdu) (counter a : ℕ) (soft : List ℤ) (octets words : List ℕ) (r : ℕ) (o : Outcome)
+    → DecodeSoft kind ps counter a soft octets words r o → ComparedAs (lengthOf ps) r (o .comparisons)
+unfolding DecodeSoft softRefusal
+comparisons-decode-soft kind ps counter a soft octets words r o =
+    compared ps _ _ octets words r o (λ zero. long kind ps counter a (given-passed _ _ zero .0)) (λ w. w .compared)
+
+pub comparisons-decode-readings : (kind : Kind) (ps : List Pdu) (counter a : ℕ) (i q : List ℤ) (octets words : List ℕ) (r : ℕ) (o : Outcome)
+    → DecodeReadings kind ps counter a i q octets words r o → ComparedAs (lengthOf ps) r (o .comparisons)
+unfolding DecodeReadings readingsRefusal
+comparisons-decode-readings kind ps counter a i q octets words r o =
+    compared ps _ _ octets words r o (λ zero. long kind ps counter a (given-passed _ _ zero .0)) (λ w. w .compared)

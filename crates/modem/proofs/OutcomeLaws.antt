@@ -1,21 +1,16 @@
 -- One outcome is wanted: of two trains that are returned each is the other, and a train determines its octets.
 -- Assumes nothing.
-use mathlib.Core.Path.{_≡_, refl, sym, _∙_, ap, ap₂, subst}
-use mathlib.Core.Bool.{Bool, true, false}
+use mathlib.Core.Path.{_≡_, sym, _∙_, ap, ap₂, subst}
 use mathlib.Core.List.{List, _++_}
 use Prim.Native.Nat.{ℕ}
 use lib.ListN.{take, take-append-drop}
+use Rattle.laws.proofs.AnswerLaws.{same-test}
 use Rattle.modes.specs.Sizes.{octetsOf}
 use Rattle.trellis.specs.Wanted.{Confirmed}
 use Rattle.trellis.proofs.WantedLaws.{returned-unique}
+use Rattle.trellis.proofs.CompareLaws.{one-number}
 use Rattle.unique.specs.Sameness.{Octets}
 use Rattle.modem.specs.Decode.{Outcome, Decoded}
-
--- of two marks that each say whether something holds, each is the other
-same-mark : (x y : Bool) (A : Type 0) → (x ≡ true → A) → (A → x ≡ true) → (y ≡ true → A) → (A → y ≡ true) → x ≡ y
-same-mark true y A to from to′ from′ = sym (from′ (to refl))
-same-mark false true A to from to′ from′ = from (to′ refl)
-same-mark false false A to from to′ from′ = refl
 
 module _ (stands : List ℕ → List ℕ) (N symbols n : ℕ) (cost : List ℕ → ℕ) (differing : List ℕ → List ℕ → ℕ) (octets words : List ℕ)
     (back : (x y : List ℕ) → Octets (octetsOf N) (take (octetsOf N) x) → Octets (octetsOf N) (take (octetsOf N) y) → stands x ≡ stands y
@@ -33,7 +28,7 @@ module _ (stands : List ℕ → List ℕ) (N symbols n : ℕ) (cost : List ℕ �
         in
         let same-cost : x .cost ≡ y .cost = cx .costs ∙ ap cost same-train ∙ sym (cy .costs) in
         let same-confirmed : x .confirmed ≡ y .confirmed =
-        same-mark _ _ (Confirmed N cost differing (stands (x .octets))) (cx .only-then) (cx .always-then)
+        same-test _ _ (Confirmed N cost differing (stands (x .octets))) (cx .only-then) (cx .always-then)
         (λ t. subst (Confirmed N cost differing) (sym same-train) (cy .only-then t))
         (λ t. cy .always-then (subst (Confirmed N cost differing) same-train t))
         in
@@ -43,6 +38,7 @@ module _ (stands : List ℕ → List ℕ) (N symbols n : ℕ) (cost : List ℕ �
           n = (dx .all-sent ∙ sym (dy .all-sent)) t;
           cost = same-cost t;
           confirmed = same-confirmed t;
+          comparisons = one-number (dx .compared) (dy .compared) t;
           octets = same-octets t;
           words = (cx .zeroed ∙ sym (cy .zeroed)) t;
         }

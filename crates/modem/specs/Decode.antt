@@ -26,6 +26,7 @@ use Rattle.modes.specs.Sizes.{octetsOf}
 use Rattle.modes.specs.Pdus.{Pdu, lengthOf, symbolsOf, carriersOf, sentOf}
 use Rattle.modes.specs.Refusals.{decodeDescribed}
 use Rattle.trellis.specs.Wanted.{Returned, Confirmed}
+use Rattle.trellis.specs.Compared.{Comparisons}
 use Rattle.unique.specs.Sameness.{Octets}
 use Rattle.soft.specs.Carriers.{allSoft}
 use Rattle.modem.specs.Lent.{lent, readingsWrong, roomShort}
@@ -33,23 +34,24 @@ use Rattle.modem.specs.Entering.{entering}
 use Rattle.modem.specs.Soften.{softened}
 use Rattle.modem.specs.Costs.{roundedCost, differing}
 
--- symbols, n, rounded cost and mark; the octets and the working words
+-- symbols, n, rounded cost, mark and comparisons; the octets and the working words
 pub record Outcome : Type 0 where
   pub symbols : ℕ
   pub n : ℕ
   pub cost : ℕ
   pub confirmed : Bool
+  pub comparisons : ℕ
   pub octets : List ℕ
   pub words : List ℕ
 
 -- an outcome by its parts
-abbrev pub outcome : (symbols n cost : ℕ) → Bool → (octets words : List ℕ) → Outcome
-outcome symbols n cost confirmed octets words =
-    record { symbols = symbols; n = n; cost = cost; confirmed = confirmed; octets = octets; words = words }
+abbrev pub outcome : (symbols n cost : ℕ) → Bool → (comparisons : ℕ) → (octets words : List ℕ) → Outcome
+outcome symbols n cost confirmed comparisons octets words =
+    record { symbols = symbols; n = n; cost = cost; confirmed = confirmed; comparisons = comparisons; octets = octets; words = words }
 
 -- a refused call reports zero for every count and cost and no confirmation, and changes no octet and no word
 abbrev pub nothing : (octets words : List ℕ) → Outcome
-nothing octets words = outcome 0 0 0 false octets words
+nothing octets words = outcome 0 0 0 false 0 octets words
 
 -- the train that N/8 octets at the front of a buffer stand for
 unfoldable pub trainOf : Kind → (counter N : ℕ) → List ℕ → List ℕ
@@ -68,11 +70,12 @@ pub record Chosen (stands : List ℕ → List ℕ) (N : ℕ) (cost : List ℕ �
   pub kept : drop (octetsOf N) octets′ ≡ drop (octetsOf N) octets
   pub zeroed : words′ ≡ filled (N + 6) (λ _. 0) words
 
--- chosen by some cost and some count of differing bits; and the train's symbols and sent bits
+-- chosen by some cost and some count of differing bits; the train's symbols and sent bits; and how many comparisons a search for it takes
 pub record Decoded (stands : List ℕ → List ℕ) (N symbols n : ℕ) (cost : List ℕ → ℕ) (differing : List ℕ → List ℕ → ℕ) (octets words : List ℕ) (o : Outcome) : Type 0 where
   pub chosen : Chosen stands N cost differing octets words (o .cost) (o .confirmed) (o .octets) (o .words)
   pub all-symbols : o .symbols ≡ symbols
   pub all-sent : o .n ≡ n
+  pub compared : Comparisons N (o .comparisons)
 
 -- a train of a list of PDUs, chosen by the rounded cost of the sent bits, all of them heard
 abbrev pub DecodedList : Kind → List Pdu → (counter a : ℕ) → List ℤ → (octets words : List ℕ) → Outcome → Type 0

@@ -7,12 +7,14 @@
 --   ReturnedAs     2: of all trains of N bits the one of least rounded cost, of equals the one by the rule
 --   GivenBack      2: what went in at the one end came out at the other, at no cost and confirmed
 --   Trusted        3: how far the returned train can be trusted
+-- And of a later request:
+--   ComparedAs     how many comparisons of two partial trains a decode reports
 -- Assumes nothing.
 use mathlib.Core.Path.{_≡_}
 use mathlib.Core.Bool.{true}
 use mathlib.Core.Logic.{_≢_}
 use mathlib.Core.List.{List}
-use Prim.Native.Nat.{ℕ, _+_, _*_, _%_, _≤_, _<_}
+use Prim.Native.Nat.{ℕ, _+_, _-_, _*_, _%_, _≤_, _<_}
 use lib.Ieee.{Float}
 use lib.IntN.{ℤ, pos}
 use lib.ListN.{getD, take, drop}
@@ -25,6 +27,7 @@ use Rattle.coder.specs.Train.{Train}
 use Rattle.points.specs.Levels.{levelI, levelQ}
 use Rattle.points.specs.Points.{part}
 use Rattle.trellis.specs.Wanted.{Returned, Confirmed}
+use Rattle.trellis.specs.Compared.{Comparisons}
 use Rattle.modem.specs.Encode.{sentBit}
 use Rattle.modem.specs.Ideal.{listI, listQ}
 use Rattle.modem.specs.Soften.{softened}
@@ -81,3 +84,9 @@ pub record Trusted (kind : Kind) (ps : List Pdu) (counter a : ℕ) (i q : List �
       → o .confirmed ≡ true
   pub alone : o .confirmed ≡ true → (v : List ℕ) → Train (lengthOf ps) v → v ≢ trainOf kind counter (lengthOf ps) (o .octets)
       → exactCost ps a i q (trainOf kind counter (lengthOf ps) (o .octets)) < exactCost ps a i q v
+
+-- the number k that a decode of N bits with the answer r reports is that of the definition and that of the formula; 0 where it is refused
+pub record ComparedAs (N r k : ℕ) : Type 0 where
+  pub counted : r ≡ 0 → Comparisons N k
+  pub formula : r ≡ 0 → k ≡ 64 * (N - 6) + 63
+  pub none : r ≢ 0 → k ≡ 0

@@ -5,10 +5,11 @@ use mathlib.Core.Path.{_≡_}
 use mathlib.Core.Bool.{Bool}
 use Prim.Native.Nat.{ℕ}
 
--- what a call tells: the refusal k, s symbols, n sent bits, the cost c and the mark m
-pub record Tells (k s n c : ℕ) (m : Bool) (refusal symbols sent cost : ℕ) (confirmed : Bool) : Type 0 where
+-- what a call tells: the refusal k, s symbols, n sent bits, the cost c, the mark m and p comparisons
+pub record Tells (k s n c : ℕ) (m : Bool) (p : ℕ) (refusal symbols sent cost : ℕ) (confirmed : Bool) (comparisons : ℕ) : Type 0 where
   pub refusal-is : refusal ≡ k
   pub symbols-is : symbols ≡ s
   pub sent-is : sent ≡ n
   pub cost-is : cost ≡ c
   pub mark-is : confirmed ≡ m
+  pub compared-is : comparisons ≡ p

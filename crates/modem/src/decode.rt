@@ -20,13 +20,15 @@ ghost use Rattle.modem.specs.Entering.{counterIn};
 ghost use Rattle.modem.specs.Told.{Tells};
 ghost use Rattle.modem.specs.Decode.{outcome, trainOf, Chosen, DecodeSoft};
 
-// What a decode answers: a refusal number, and where that is 0 the symbols, the sent bits, the rounded cost and the mark.
+// What a decode answers: a refusal number, and where that is 0 the symbols, the sent bits, the rounded cost, the mark, and the
+// comparisons of two partial trains that the search takes.
 pub struct Answer {
     pub refusal: u32,
     pub symbols: u32,
     pub n: u32,
     pub cost: u32,
     pub confirmed: bool,
+    pub comparisons: u32,
 }
 
 // What is known of a train that was found, beside its octets.
@@ -121,7 +123,7 @@ pub(crate) fn lent_refusal(number: u32, wrong: bool, short: bool, outside: bool)
 }
 
 pub(crate) fn refused(refusal: u32) -> Answer
-    ensures { λ r. ⌜ Tells refusal 0 0 0 false (r .refusal) (r .symbols) (r .n) (r .cost) (r .confirmed) ⌝ }
+    ensures { λ r. ⌜ Tells refusal 0 0 0 false 0 (r .refusal) (r .symbols) (r .n) (r .cost) (r .confirmed) (r .comparisons) ⌝ }
 {
     Answer {
         refusal,
@@ -129,12 +131,13 @@ pub(crate) fn refused(refusal: u32) -> Answer
         n: 0,
         cost: 0,
         confirmed: false,
+        comparisons: 0,
     }
 }
 
-pub(crate) fn done(symbols: usize, sent: usize, found: Found) -> Answer
+pub(crate) fn done(symbols: usize, sent: usize, found: Found, comparisons: u32) -> Answer
     requires { ⌜ (symbols ≤ 144) × (sent ≤ 6912) ⌝ }
-    ensures { λ r. ⌜ Tells 0 symbols sent (found .cost) (found .confirmed) (r .refusal) (r .symbols) (r .n) (r .cost) (r .confirmed) ⌝ }
+    ensures { λ r. ⌜ Tells 0 symbols sent (found .cost) (found .confirmed) comparisons (r .refusal) (r .symbols) (r .n) (r .cost) (r .confirmed) (r .comparisons) ⌝ }
 {
     Answer {
         refusal: 0,
@@ -142,6 +145,7 @@ pub(crate) fn done(symbols: usize, sent: usize, found: Found) -> Answer
         n: sent as u32,
         cost: found.cost,
         confirmed: found.confirmed,
+        comparisons,
     }
 }
 
@@ -158,7 +162,7 @@ pub fn decode_soft(
     octets: &mut [u8],
     words: &mut [u64],
 ) -> Answer
-    ensures { λ r. ⌜ DecodeSoft kind (pdusOf count (now (modes .entry)) (now (lengths .entry))) counter a (now (soft .entry)) (now (octets .entry)) (now (words .entry)) (r .refusal) (outcome (r .symbols) (r .n) (r .cost) (r .confirmed) (now (octets .exit)) (now (words .exit))) ⌝ }
+    ensures { λ r. ⌜ DecodeSoft kind (pdusOf count (now (modes .entry)) (now (lengths .entry))) counter a (now (soft .entry)) (now (octets .entry)) (now (words .entry)) (r .refusal) (outcome (r .symbols) (r .n) (r .cost) (r .confirmed) (r .comparisons) (now (octets .exit)) (now (words .exit))) ⌝ }
 {
     let counter = modes::heeded_counter(kind, counter);
     let refusal = modes::refusal(kind, count, modes, lengths, counter, a);
@@ -175,5 +179,6 @@ pub fn decode_soft(
         return refused(late);
     }
     let found = find(train, n, soft, octets, words);
-    done(counts.symbols, counts.sent, found)
+    let comparisons = trellis::comparisons(n);
+    done(counts.symbols, counts.sent, found, comparisons)
 }

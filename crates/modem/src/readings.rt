@@ -120,7 +120,7 @@ pub fn decode_readings(
     octets: &mut [u8],
     words: &mut [u64],
 ) -> Answer
-    ensures { λ r. ⌜ DecodeReadings kind (pdusOf count (now (modes .entry)) (now (lengths .entry))) counter a (now (i .entry)) (now (q .entry)) (now (octets .entry)) (now (words .entry)) (r .refusal) (outcome (r .symbols) (r .n) (r .cost) (r .confirmed) (now (octets .exit)) (now (words .exit))) ⌝ }
+    ensures { λ r. ⌜ DecodeReadings kind (pdusOf count (now (modes .entry)) (now (lengths .entry))) counter a (now (i .entry)) (now (q .entry)) (now (octets .entry)) (now (words .entry)) (r .refusal) (outcome (r .symbols) (r .n) (r .cost) (r .confirmed) (r .comparisons) (now (octets .exit)) (now (words .exit))) ⌝ }
 {
     let counter = modes::heeded_counter(kind, counter);
     let refusal = modes::refusal(kind, count, modes, lengths, counter, a);
@@ -137,5 +137,6 @@ pub fn decode_readings(
         return refused(late);
     }
     let found = find_by_readings(train, n, counts.sent, i, q, octets, words);
-    done(counts.symbols, counts.sent, found)
+    let comparisons = trellis::comparisons(n);
+    done(counts.symbols, counts.sent, found, comparisons)
 }

@@ -8,9 +8,9 @@
 //     soften COUNT MODES LENGTHS I Q ROOM                     refusal, soft bytes
 //     decode_soft KIND COUNT MODES LENGTHS COUNTER A SOFT ROOM-OCTETS ROOM-WORDS
 //     decode_readings KIND COUNT MODES LENGTHS COUNTER A I Q ROOM-OCTETS ROOM-WORDS
-//                                                             refusal, symbols, n, cost, mark (C D -), octets in
-//                                                             hexadecimal, how many words at the front are zero, and
-//                                                             where those end that are then as they were
+//                                                             refusal, symbols, n, cost, mark (C D -), comparisons,
+//                                                             octets in hexadecimal, how many words at the front are
+//                                                             zero, and where those end that are then as they were
 //
 // KIND is `data` or `bch`. MODES and LENGTHS are decimal numbers with commas and no blanks between them, at most sixteen; an
 // entry that is not written is lent as 0. OCTETS, SENT and SOFT are bytes in hexadecimal, I and Q readings of four digits, `-`

@@ -76,7 +76,7 @@ pub(crate) fn soft_bytes(values: &[i8]) {
     }
 }
 
-// The refusal, symbols, n and cost of a decode, and its mark as the bench prints it.
+// The refusal, symbols, n and cost of a decode, its mark as the bench prints it, and its comparisons.
 pub(crate) fn answer(a: Answer) {
     io::print_decimal(STDOUT_FILENO, a.refusal as u64);
     io::write_all(STDOUT_FILENO, b" ");
@@ -85,7 +85,12 @@ pub(crate) fn answer(a: Answer) {
     io::print_decimal(STDOUT_FILENO, a.n as u64);
     io::write_all(STDOUT_FILENO, b" ");
     io::print_decimal(STDOUT_FILENO, a.cost as u64);
-    io::write_all(STDOUT_FILENO, &[b' ', record::mark_of(a), b' ']);
+    io::write_all(
+        STDOUT_FILENO,
+        &[b' ', record::mark_of(a.refusal, a.confirmed), b' '],
+    );
+    io::print_decimal(STDOUT_FILENO, a.comparisons as u64);
+    io::write_all(STDOUT_FILENO, b" ");
 }
 
 // Octets in hexadecimal.

@@ -80,22 +80,22 @@ module _ (mode counter N a : ℕ) (passed : ladder (described mode counter N a) 
     made-carriers s e = ap (λ (k : ℕ). 48 * k) (e ∙ ap (λ (k : ℕ). symbols k N) same-mode)
 
   -- the three calls, one after the other: by demand 2 the other two are done where the first is
-  pub run-done : (octets sent₀ sent : List ℕ) (i₀ q₀ i q : List ℤ) (octets₀ words₀ octets′ words′ : List ℕ) (bits all r₁ r₂ r₃ s n cost : ℕ) (confirmed : Bool)
+  pub run-done : (octets sent₀ sent : List ℕ) (i₀ q₀ i q : List ℤ) (octets₀ words₀ octets′ words′ : List ℕ) (bits all r₁ r₂ r₃ s n cost : ℕ) (confirmed : Bool) (comparisons : ℕ)
       → ((k : ℕ) → getD octets k 0 < 256) → length octets ≡ octetsOf N
       → length sent₀ ≡ 864 → length i₀ ≡ 864 → length q₀ ≡ 864 → length octets₀ ≡ 54 → length words₀ ≡ 438
       → bits ≡ sentBits mode N → all ≡ carriers mode N
       → Encode Data (one mode N) counter a octets sent₀ r₁ sent → Ideal (one mode N) (take (bits - 0) sent) i₀ q₀ r₂ i q
-      → DecodeReadings Data (one mode N) counter a (take (all - 0) i) (take (all - 0) q) octets₀ words₀ r₃ (outcome s n cost confirmed octets′ words′)
+      → DecodeReadings Data (one mode N) counter a (take (all - 0) i) (take (all - 0) q) octets₀ words₀ r₃ (outcome s n cost confirmed comparisons octets′ words′)
       → (r₃ ≡ 0) × Run mode counter N a octets (line s n cost confirmed)
   unfolding octetsOf
-  run-done octets sent₀ sent i₀ q₀ i q octets₀ words₀ octets′ words′ bits all r₁ r₂ r₃ s n cost confirmed low whole hs hi hq ho hw eb ea p₁ p₂ p₃ =
+  run-done octets sent₀ sent i₀ q₀ i q octets₀ words₀ octets′ words′ bits all r₁ r₂ r₃ s n cost confirmed comparisons low whole hs hi hq ho hw eb ea p₁ p₂ p₃ =
       let encoded : Encode Data (one mode N) counter a octets sent₀ 0 sent = rw (encoded-done octets sent₀ sent r₁ whole hs p₁) at p₁ in
       let taken : Ideal (one mode N) (take (sentBits mode N) sent) i₀ q₀ r₂ i q = rw (front _ bits sent eb) at p₂ in
-      let decoded : DecodeReadings Data (one mode N) counter a (take (carriers mode N) i) (take (carriers mode N) q) octets₀ words₀ r₃ (outcome s n cost confirmed octets′ words′) =
+      let decoded : DecodeReadings Data (one mode N) counter a (take (carriers mode N) i) (take (carriers mode N) q) octets₀ words₀ r₃ (outcome s n cost confirmed comparisons octets′ words′) =
       rw (front _ all i ea, front _ all q ea) at p₃
       in
       let N-is : lengthOf (one mode N) ≡ N = one-length mode N in
-      let (z₂, back) = demand-2-given-back Data (one mode N) counter counter a octets sent₀ sent i₀ q₀ i q octets₀ words₀ r₂ r₃ (outcome s n cost confirmed octets′ words′) low encoded
+      let (z₂, back) = demand-2-given-back Data (one mode N) counter counter a octets sent₀ sent i₀ q₀ i q octets₀ words₀ r₂ r₃ (outcome s n cost confirmed comparisons octets′ words′) low encoded
       (omega (arith, few-carriers, one-carriers mode N)) (omega (arith, few-carriers, one-carriers mode N))
       (rw (one-sent mode N) taken) (omega (arith, N-is)) (omega (arith, N-is)) refl (rw (one-carriers mode N) decoded)
       in (
@@ -111,9 +111,10 @@ module _ (mode counter N a : ℕ) (passed : ladder (described mode counter N a) 
           words₀ = words₀;
           octets′ = octets′;
           words′ = words′;
+          comparisons = comparisons;
           encoded = rw (← one-encode mode N a counter octets sent₀ 0 sent) encoded;
           taken = rw (← one-ideal mode N (take (sentBits mode N) sent) i₀ q₀ 0 i q) (rw z₂ at taken);
-          decoded = rw (← one-decode-readings mode N a counter (take (carriers mode N) i) (take (carriers mode N) q) octets₀ words₀ 0 (outcome s n cost confirmed octets′ words′)) (rw (back .done) at decoded);
+          decoded = rw (← one-decode-readings mode N a counter (take (carriers mode N) i) (take (carriers mode N) q) octets₀ words₀ 0 (outcome s n cost confirmed comparisons octets′ words′)) (rw (back .done) at decoded);
         },
       )
 
@@ -126,8 +127,8 @@ run-back mode counter N a octets l low run =
     rw (one-sent mode N, one-ideal mode N (take (sentBits mode N) (run .sent)) (run .i₀) (run .q₀) 0 (run .i) (run .q)) (run .taken)
     in
     let decoded : DecodeReadings Data (one mode N) counter a (take (carriersOf (one mode N)) (run .i)) (take (carriersOf (one mode N)) (run .q)) (run .octets₀) (run .words₀) 0
-    (outcome (l .symbols) (l .n) (l .cost) (l .confirmed) (run .octets′) (run .words′)) =
-    rw (one-carriers mode N, one-decode-readings mode N a counter (take (carriers mode N) (run .i)) (take (carriers mode N) (run .q)) (run .octets₀) (run .words₀) 0 (outcome (l .symbols) (l .n) (l .cost) (l .confirmed) (run .octets′) (run .words′)))
+    (outcome (l .symbols) (l .n) (l .cost) (l .confirmed) (run .comparisons) (run .octets′) (run .words′)) =
+    rw (one-carriers mode N, one-decode-readings mode N a counter (take (carriers mode N) (run .i)) (take (carriers mode N) (run .q)) (run .octets₀) (run .words₀) 0 (outcome (l .symbols) (l .n) (l .cost) (l .confirmed) (run .comparisons) (run .octets′) (run .words′)))
     (run .decoded)
     in
     let back = chain-done Data (one mode N) counter a octets (run .sent₀) (run .sent) (run .i₀) (run .q₀) (run .i) (run .q) (run .octets₀) (run .words₀) _ low encoded taken decoded in

@@ -65,8 +65,8 @@ pub record Line : Type 0 where
 abbrev pub line : (symbols n cost : ℕ) → Bool → Line
 line symbols n cost confirmed = record { symbols = symbols; n = n; cost = cost; confirmed = confirmed }
 
--- the octets are encoded, the ideal readings of the sent bits are taken, and the line is what decoding these readings reports; each call is
--- done, and what stood in the buffers before does not matter
+-- the octets are encoded, the ideal readings of the sent bits are taken, and the line is what decoding these readings reports, but for
+-- its comparisons; each call is done, and what stood in the buffers before does not matter
 pub record Run (mode counter N a : ℕ) (octets : List ℕ) (l : Line) : Type 0 where
   pub sent₀ : List ℕ
   pub sent : List ℕ
@@ -78,10 +78,11 @@ pub record Run (mode counter N a : ℕ) (octets : List ℕ) (l : Line) : Type 0 
   pub words₀ : List ℕ
   pub octets′ : List ℕ
   pub words′ : List ℕ
+  pub comparisons : ℕ
   pub encoded : Encode mode counter N a octets sent₀ 0 sent
   pub taken : Ideal mode N (take (sentBits mode N) sent) i₀ q₀ 0 i q
   pub decoded : DecodeReadings mode counter N a (take (carriers mode N) i) (take (carriers mode N) q) octets₀ words₀ 0
-      (outcome (l .symbols) (l .n) (l .cost) (l .confirmed) octets′ words′)
+      (outcome (l .symbols) (l .n) (l .cost) (l .confirmed) comparisons octets′ words′)
 
 -- the refusal r of a record, and its line: all zero and not confirmed where it is refused
 unfoldable pub LineOf : (bytes : List ℕ) → (r : ℕ) → Line → Type 0

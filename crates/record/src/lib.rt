@@ -2,7 +2,6 @@
 // Refusals 1 to 6, of which 3 is for N above 432 too; refusal 10, for a record that was cut, is its reader's to give. Reading
 // and printing are not done here.
 use coder::wide;
-use modem::Answer;
 use modes::Kind;
 ghost use mathlib.Core.Path.{_≡_};
 ghost use mathlib.Core.Bool.{false};
@@ -12,6 +11,15 @@ ghost use Rattle.laws.specs.Ladder.{ladder};
 ghost use Rattle.modes.specs.Sizes.{octetsOf};
 ghost use Rattle.modes.specs.Refusals.{described};
 ghost use Rattle.record.specs.Record.{two, lineRefusal, line, Run, LineOf, markOf};
+
+// What a line says: the record's refusal, and where that is 0 the symbols, the sent bits, the rounded cost and the mark.
+pub struct Line {
+    pub refusal: u32,
+    pub symbols: u32,
+    pub n: u32,
+    pub cost: u32,
+    pub confirmed: bool,
+}
 
 // Two bytes, high byte first.
 fn number(high: u8, low: u8) -> u32
@@ -67,7 +75,7 @@ fn refusal(mode: u32, counter: u32, n: u32, a: u32) -> u32
 }
 
 // Encodes, takes ideal readings, decodes: a record of which all has been tested, as a list of one PDU of data.
-fn run(mode: u32, counter: u32, n: u32, a: u32, octets: &[u8]) -> Answer
+fn run(mode: u32, counter: u32, n: u32, a: u32, octets: &[u8]) -> Line
     requires { ⌜ (ladder (described mode counter n a) ≡ 0) × (n ≤ 432) × (length (now octets) ≡ octetsOf n) ⌝ }
     ensures { λ r. ⌜ (r .refusal ≡ 0) × Run mode counter n a (now (octets .entry)) (line (r .symbols) (r .n) (r .cost) (r .confirmed)) ⌝ }
 {
@@ -92,7 +100,7 @@ fn run(mode: u32, counter: u32, n: u32, a: u32, octets: &[u8]) -> Answer
     modem::ideal(1, &modes, &lengths, &sent[0..bits], &mut i, &mut q);
     let mut back = octets_room();
     let mut words = words_room();
-    modem::decode_readings(
+    let answer = modem::decode_readings(
         Kind::Data,
         1,
         &modes,
@@ -103,14 +111,21 @@ fn run(mode: u32, counter: u32, n: u32, a: u32, octets: &[u8]) -> Answer
         &q[0..carriers],
         &mut back,
         &mut words,
-    )
+    );
+    Line {
+        refusal: answer.refusal,
+        symbols: answer.symbols,
+        n: answer.n,
+        cost: answer.cost,
+        confirmed: answer.confirmed,
+    }
 }
 
 // What the line of a refused record says.
-pub fn refused(refusal: u32) -> Answer
+pub fn refused(refusal: u32) -> Line
     ensures { λ r. ⌜ (r .refusal ≡ refusal) × (r .symbols ≡ 0) × (r .n ≡ 0) × (r .cost ≡ 0) × (r .confirmed ≡ false) ⌝ }
 {
-    Answer {
+    Line {
         refusal,
         symbols: 0,
         n: 0,
@@ -120,7 +135,7 @@ pub fn refused(refusal: u32) -> Answer
 }
 
 // What the line of a record says.
-pub fn line_of(bytes: &[u8; 60]) -> Answer
+pub fn line_of(bytes: &[u8; 60]) -> Line
     ensures { λ r. ⌜ LineOf (now (bytes .entry)) (r .refusal) (line (r .symbols) (r .n) (r .cost) (r .confirmed)) ⌝ }
 {
     let mode = wide(bytes[0]);
@@ -137,13 +152,13 @@ pub fn line_of(bytes: &[u8; 60]) -> Answer
 }
 
 // The last letter of a line.
-pub fn mark_of(answer: Answer) -> u8
-    ensures { λ r. ⌜ r ≡ markOf (answer .refusal) (answer .confirmed) ⌝ }
+pub fn mark_of(refusal: u32, confirmed: bool) -> u8
+    ensures { λ r. ⌜ r ≡ markOf refusal confirmed ⌝ }
 {
-    if answer.refusal != 0 {
+    if refusal != 0 {
         return b'-';
     }
-    if answer.confirmed {
+    if confirmed {
         return b'C';
     }
     b'D'

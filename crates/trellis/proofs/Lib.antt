@@ -7,5 +7,6 @@ pub mod WayLaws
 pub mod JoinLaws
 pub mod DecodedLaws
 pub mod PartialLaws
+pub mod CompareLaws
 pub mod ClearLaws
 pub mod MarkLaws

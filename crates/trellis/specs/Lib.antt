@@ -2,3 +2,4 @@ pub mod Wanted
 pub mod Heard
 pub mod Passes
 pub mod Partial
+pub mod Compared

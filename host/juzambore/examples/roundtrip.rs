@@ -27,5 +27,6 @@ fn main() {
     println!("decoded  {}", back.escape_ascii());
     let mark = if answer.confirmed { "confirmed" } else { "not confirmed" };
     println!("{} symbols, {} sent bits, cost {}, {mark}", answer.symbols, answer.n, answer.cost);
+    println!("{} comparisons of two partial trains", answer.comparisons);
     assert_eq!(octets, back);
 }

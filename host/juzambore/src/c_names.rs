@@ -16,6 +16,7 @@ pub struct CAnswer {
     pub n: u32,
     pub cost: u32,
     pub confirmed: u32,
+    pub comparisons: u32,
 }
 
 extern "C" {
@@ -44,7 +45,7 @@ extern "C" {
 }
 
 impl From<CAnswer> for Answer {
-    fn from(CAnswer { refusal, symbols, n, cost, confirmed }: CAnswer) -> Answer {
-        Answer { refusal, symbols, n, cost, confirmed: confirmed != 0 }
+    fn from(CAnswer { refusal, symbols, n, cost, confirmed, comparisons }: CAnswer) -> Answer {
+        Answer { refusal, symbols, n, cost, confirmed: confirmed != 0, comparisons }
     }
 }

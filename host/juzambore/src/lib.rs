@@ -78,6 +78,9 @@ pub struct Answer {
     pub cost: u32,
     /// Whether it is confirmed: every other train costs more, by over half the sent bits in which the two differ.
     pub confirmed: bool,
+    /// How many comparisons of two partial trains the search for it takes: 64 x (N - 6) + 63. A planner reserves cycles
+    /// by it; the machine's own steps take all 64 states at once.
+    pub comparisons: u32,
 }
 
 /// The point of one carrier; +0 and +0 where the call is refused.

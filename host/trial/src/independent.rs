@@ -1,6 +1,6 @@
-//! The six calls once more, slow and obvious, written from document 01 and the requests for lists of PDUs and for BCH
-//! alone: no code, table or definition comes from the proved crates. Each takes and answers what the library's call
-//! does.
+//! The six calls once more, slow and obvious, written from document 01 and the requests for lists of PDUs, for BCH and
+//! for the count of comparisons alone: no code, table or definition comes from the proved crates. Each takes and answers
+//! what the library's call does.
 pub mod modes;
 mod points;
 mod search;
@@ -105,7 +105,7 @@ pub fn decode_readings(
 }
 
 fn answer(result: Result<Answer, u32>) -> Answer {
-    result.unwrap_or_else(|refusal| Answer { refusal, symbols: 0, n: 0, cost: 0, confirmed: false })
+    result.unwrap_or_else(|refusal| Answer { refusal, symbols: 0, n: 0, cost: 0, confirmed: false, comparisons: 0 })
 }
 
 /// The counter that a decode is given. That of a BCH is not read.
@@ -128,10 +128,10 @@ fn decoded(
     for (number, &byte) in origins(size, a).into_iter().zip(soft) {
         heard[number / 2][number % 2] = Some(byte);
     }
-    let (train, cost) = search::least(&heard);
+    let (train, cost, comparisons) = search::least(&heard);
     let confirmed = search::is_confirmed(&heard, &train, cost);
     let bits = sending::entering(kind, &train, counter.unwrap_or_else(|| sending::counter_of(&train)));
     octets[..size.n / 8].copy_from_slice(&sending::octets_of(&bits));
     words[..size.n + 6].fill(0);
-    Answer { refusal: 0, symbols: size.symbols as u32, n: size.sent as u32, cost: cost as u32, confirmed }
+    Answer { refusal: 0, symbols: size.symbols as u32, n: size.sent as u32, cost: cost as u32, confirmed, comparisons }
 }

@@ -222,7 +222,7 @@ fn send(m: &Mode, coded: &[u8], sent: &mut [u8]) {
 }
 
 fn refused(refusal: u32) -> Answer {
-    Answer { refusal, symbols: 0, n: 0, cost: 0, confirmed: false }
+    Answer { refusal, symbols: 0, n: 0, cost: 0, confirmed: false, comparisons: 0 }
 }
 
 /// The counter of a BCH is not read: one that is never refused stands for it.
@@ -274,7 +274,8 @@ fn decode_by(
     let cost = search(n, heard, found, &mut words[..n + 6]);
     let confirmed = mark(n, heard, found);
     descramble(train.kind, counter, found, octets);
-    Ok(Answer { refusal: 0, symbols: train.symbols as u32, n: soft.len() as u32, cost, confirmed })
+    let comparisons = 64 * (n as u32 - 6) + 63;
+    Ok(Answer { refusal: 0, symbols: train.symbols as u32, n: soft.len() as u32, cost, confirmed, comparisons })
 }
 
 /// The soft bytes by their coded bits, X and Y of each input, counted from -128; 0 is a bit not sent.

@@ -54,12 +54,13 @@ fn decode_line(call: &str, answer: &str) -> Recorded {
     let soft: Vec<i8> = words[5..].iter().map(|word| word.parse().expect("a soft byte")).collect();
     let mut case = Case::new(Call::DecodeSoft, described(&words));
     case.soft = Lent::holding(random, &soft, soft.len());
-    let n = case.train.size().n;
-    case.octets = Lent::random(random, n / 8);
-    case.words = Lent::random(random, n + 6);
+    let size = case.train.size();
+    case.octets = Lent::random(random, size.n / 8);
+    case.words = Lent::random(random, size.n + 6);
     let said: Vec<&str> = answer.split(' ').collect();
     let [refusal, symbols, n, cost] = [0, 1, 2, 3].map(|k| number(said[k]));
-    let told = Told::Decoded(Answer { refusal, symbols, n, cost, confirmed: said[4] == "C" });
+    let comparisons = 64 * (size.n as u32 - 6) + 63; // which the lines do not say
+    let told = Told::Decoded(Answer { refusal, symbols, n, cost, confirmed: said[4] == "C", comparisons });
     Recorded { case, told, sent: Vec::new(), octets: octets_of(said[5]) }
 }
 

@@ -124,7 +124,7 @@ returns c =
     let coded = read .before .before .before .before .before .before .before .before .before .before in
     let sized = coded .before .before .before .before .before in
     let start = entry (sized .before .before) in
-    run-done _ _ _ _ (start .pre .0) (start .pre .1) _ _ _ _ _ _ _ _ _ _ _ _ _ _ _ _ _ _ _ _ (λ k. sized .before .before .before .shared-slice-known .given k .fits) (start .pre .2)
+    run-done _ _ _ _ (start .pre .0) (start .pre .1) _ _ _ _ _ _ _ _ _ _ _ _ _ _ _ _ _ _ _ _ _ (λ k. sized .before .before .before .shared-slice-known .given k .fits) (start .pre .2)
     (coded .before .before .before .before .sent-room .ensures) (read .before .before .before .before .before .before .before .before .readings-room .ensures)
     (read .before .before .before .before .before .before .before .readings-room2 .ensures) (rooms .before .octets-room .ensures) (rooms .words-room .ensures)
     (counted (sized .before)) (all-carriers sized)

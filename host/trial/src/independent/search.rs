@@ -38,13 +38,15 @@ fn pasts(state: usize, t: usize, steps: usize) -> impl Iterator<Item = usize> {
     (0..=most).map(move |bit| 2 * state + bit)
 }
 
-/// The scrambled train of least cost and its cost. Two ways into a state differ last in the bit that now leaves the
-/// state, its highest; states are taken in order, so of equals the one that has 0 there stays.
-pub fn least(heard: &[Pair]) -> (Vec<u8>, i64) {
+/// The scrambled train of least cost, its cost, and how often two partial trains came into one state and were compared.
+/// Two ways into a state differ last in the bit that now leaves the state, its highest; states are taken in order, so
+/// of equals the one that has 0 there stays.
+pub fn least(heard: &[Pair]) -> (Vec<u8>, i64, u32) {
     let outputs = outputs();
     let mut costs = [NEVER; 64];
     costs[0] = 0;
     let mut came_from = Vec::new();
+    let mut comparisons = 0;
     for (t, pair) in heard.iter().enumerate() {
         let more = pair_costs(pair);
         let (mut next, mut from) = ([NEVER; 64], [0u8; 64]);
@@ -52,6 +54,7 @@ pub fn least(heard: &[Pair]) -> (Vec<u8>, i64) {
             for past in pasts(state, t, heard.len()) {
                 let [x, y] = outputs[past];
                 let cost = costs[state] + more[x][y];
+                comparisons += u32::from(next[past % 64] < NEVER);
                 if cost < next[past % 64] {
                     next[past % 64] = cost;
                     from[past % 64] = state as u8;
@@ -61,7 +64,7 @@ pub fn least(heard: &[Pair]) -> (Vec<u8>, i64) {
         costs = next;
         came_from.push(from);
     }
-    (followed(&came_from), costs[0])
+    (followed(&came_from), costs[0], comparisons)
 }
 
 /// The bits of the way that ends in state 0, without the tail.

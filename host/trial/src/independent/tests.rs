@@ -5,6 +5,7 @@ use crate::description::Description;
 use crate::ladder::{bch_rungs, rungs, BchRung, Rung};
 use crate::random::Random;
 use juzambore::Kind;
+use std::collections::HashMap;
 
 fn text(bits: &[u8]) -> String {
     bits.iter().map(|bit| bit.to_string()).collect()
@@ -121,6 +122,26 @@ fn differing(heard: &[Pair], one: &[u8], other: &[u8]) -> i64 {
     sent.zip(one.iter().zip(other)).filter(|(sent, (a, b))| *sent && a != b).count() as i64
 }
 
+/// The pairs of step and state into which partial trains with different oldest bits lead, over every beginning of every
+/// train of n bits, the first at 1, with its six zeros. Six inputs are the state, and the one before them is the oldest.
+fn comparisons_by_trains(n: usize) -> u32 {
+    let mut oldest: HashMap<(usize, usize), [bool; 2]> = HashMap::new();
+    for (train, t) in (0..1 << n).flat_map(|train: usize| (0..n + 6).map(move |t| (train, t))) {
+        let last_seven = (train << 6) >> t & 127;
+        oldest.entry((t, last_seven >> 1)).or_default()[last_seven & 1] = true;
+    }
+    oldest.values().map(|seen| u32::from(*seen == [true, true])).sum()
+}
+
+#[test]
+fn comparisons_against_all() {
+    for n in 6..=10 {
+        let formula = 64 * (n as u32 - 6) + 63;
+        assert_eq!(comparisons_by_trains(n), formula, "{n} bits");
+        assert_eq!(search::least(&vec![[None; 2]; n + 6]).2, formula, "{n} bits");
+    }
+}
+
 /// The first train of least cost, in the order of numbers: of two, the lower has 0 at the last place where they differ.
 #[test]
 fn short_trains_against_all() {
@@ -136,7 +157,7 @@ fn short_trains_against_all() {
         let margin = |rival: usize| 2 * (costs[rival] - costs[best]) - differing(&heard, &all[rival], &all[best]);
         let least = rivals.map(margin).min().unwrap_or(i64::MAX);
 
-        let (train, found) = search::least(&heard);
+        let (train, found, _) = search::least(&heard);
         assert_eq!(train, (0..n).map(|t| (best >> t & 1) as u8).collect::<Vec<u8>>());
         assert_eq!(found, costs[best]);
         assert_eq!(search::is_confirmed(&heard, &train, found), least > 0);
