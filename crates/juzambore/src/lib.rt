@@ -1,6 +1,7 @@
 // The public calls under C names, for the static library libjuzambore.a: `rt staticlib juzambore`. juzambore.h declares them.
 // Each carries the promise of its call in `modem`. A kind is a number, a slice is a pointer and a length, a list's two arrays are
 // pointers to sixteen numbers; lent buffers do not overlap.
+use modem::Answer;
 use modes::Kind;
 ghost use mathlib.Core.Path.{_≡_};
 ghost use Prim.Native.Nat.{_≤_};
@@ -11,6 +12,7 @@ ghost use Rattle.modem.specs.Encode.{Encode};
 ghost use Rattle.modem.specs.Ideal.{Ideal};
 ghost use Rattle.modem.specs.Point.{MapsTo};
 ghost use Rattle.modem.specs.Soften.{Soften};
+ghost use Rattle.modem.specs.Told.{Tells};
 ghost use Rattle.modem.specs.Decode.{outcome, DecodeSoft, DecodeReadings};
 
 #[repr(C)]
@@ -95,10 +97,19 @@ pub extern "C" fn juzambore_soften(
     modem::soften(count, modes, lengths, i, q, soft)
 }
 
-fn flag(confirmed: bool) -> u32
-    ensures { λ r. ⌜ (r ≤ 1) × (eqb r 1 ≡ confirmed) ⌝ }
+// What a decode answers, its mark as 1 or 0.
+fn told(answer: Answer) -> JuzamboreAnswer
+    ensures { λ r. ⌜ Tells (answer .refusal) (answer .symbols) (answer .n) (answer .cost) (answer .confirmed) (answer .comparisons) (r .refusal) (r .symbols) (r .n) (r .cost) (eqb (r .confirmed) 1) (r .comparisons) ⌝ }
+    ensures flag { λ r. ⌜ r .confirmed ≤ 1 ⌝ }
 {
-    if confirmed { 1 } else { 0 }
+    JuzamboreAnswer {
+        refusal: answer.refusal,
+        symbols: answer.symbols,
+        n: answer.n,
+        cost: answer.cost,
+        confirmed: if answer.confirmed { 1 } else { 0 },
+        comparisons: answer.comparisons,
+    }
 }
 
 #[no_mangle]
@@ -118,14 +129,7 @@ pub extern "C" fn juzambore_decode_soft(
 {
     let kind = kind_of(kind);
     let answer = modem::decode_soft(kind, count, modes, lengths, counter, a, soft, octets, words);
-    JuzamboreAnswer {
-        refusal: answer.refusal,
-        symbols: answer.symbols,
-        n: answer.n,
-        cost: answer.cost,
-        confirmed: flag(answer.confirmed),
-        comparisons: answer.comparisons,
-    }
+    told(answer)
 }
 
 #[no_mangle]
@@ -157,12 +161,5 @@ pub extern "C" fn juzambore_decode_readings(
         octets,
         words,
     );
-    JuzamboreAnswer {
-        refusal: answer.refusal,
-        symbols: answer.symbols,
-        n: answer.n,
-        cost: answer.cost,
-        confirmed: flag(answer.confirmed),
-        comparisons: answer.comparisons,
-    }
+    told(answer)
 }

@@ -121,13 +121,13 @@ module _ (kind : Kind) (ps : List Pdu) (counter a : ℕ) (octets sent sent′ : 
             costs = sym (ap (roundedCost ps a soft) is ∙ ideal-cost ps counter a legal w train);
             only-then = λ _. subst (Confirmed N (roundedCost ps a soft) (differing ps a)) (sym is) (ideal-confirmed ps counter a legal w train);
             always-then = λ _. refl;
+            compared = formula-compares N _ (omega (arith, legal .inside)) refl;
             octets-low = rw front (record { count = octets-count; low = λ j h. low j });
             kept = drop-at octets (drop (octetsOf N) octets₀) (octetsOf N) octets-count;
             zeroed = refl;
           };
           all-symbols = refl;
           all-sent = refl;
-          compared = formula-compares N _ (omega (arith, legal .inside)) refl;
         }
 
     given-wanted : octetsOf (lengthOf ps) ≤ length octets₀ → lengthOf ps + 6 ≤ length words₀

@@ -19,7 +19,7 @@ use Rattle.modes.specs.Kinds.{heeded}
 use Rattle.modes.specs.Sizes.{octetsOf}
 use Rattle.modes.specs.Pdus.{Pdu, one, sumOf, lengthOf, carriersOf, sentOf}
 use Rattle.modes.specs.Refusals.{encodeDescribed, decodeDescribed}
-use Rattle.modes.proofs.KindLaws.{encode-legal, heeded-described, bch-described}
+use Rattle.modes.proofs.KindLaws.{encode-legal, decode-legal, bch-described}
 use Rattle.trellis.specs.Wanted.{Returned, Confirmed}
 use Rattle.trellis.specs.Compared.{Comparisons}
 use Rattle.trellis.proofs.WantedLaws.{returned-unique}
@@ -175,8 +175,7 @@ demand-3 kind ps counter a i q octets words o h =
 
 -- a decode that is not refused has 72 bits at least
 long : (kind : Kind) (ps : List Pdu) (counter a : ℕ) → ladder (decodeDescribed kind ps counter a) ≡ 0 → 6 ≤ lengthOf ps
-long kind ps counter a zero =
-    omega (arith, encode-legal kind ps (heeded kind counter) a (heeded-described kind ps counter a ∙ zero) .inside)
+long kind ps counter a zero = omega (arith, decode-legal kind ps counter a zero .inside)
 
 compared : (ps : List Pdu) (number : ℕ) (Wanted : Outcome → Type 0) (octets words : List ℕ) (r : ℕ) (o : Outcome)
     → (number ≡ 0 → 6 ≤ lengthOf ps) → (Wanted o → Comparisons (lengthOf ps) (o .comparisons))
@@ -191,10 +190,10 @@ pub comparisons-decode-soft : (kind : Kind) (ps : List Pdu) (counter a : ℕ) (s
     → DecodeSoft kind ps counter a soft octets words r o → ComparedAs (lengthOf ps) r (o .comparisons)
 unfolding DecodeSoft softRefusal
 comparisons-decode-soft kind ps counter a soft octets words r o =
-    compared ps _ _ octets words r o (λ zero. long kind ps counter a (given-passed _ _ zero .0)) (λ w. w .compared)
+    compared ps _ _ octets words r o (λ zero. long kind ps counter a (given-passed _ _ zero .0)) (λ w. w .chosen .compared)
 
 pub comparisons-decode-readings : (kind : Kind) (ps : List Pdu) (counter a : ℕ) (i q : List ℤ) (octets words : List ℕ) (r : ℕ) (o : Outcome)
     → DecodeReadings kind ps counter a i q octets words r o → ComparedAs (lengthOf ps) r (o .comparisons)
 unfolding DecodeReadings readingsRefusal
 comparisons-decode-readings kind ps counter a i q octets words r o =
-    compared ps _ _ octets words r o (λ zero. long kind ps counter a (given-passed _ _ zero .0)) (λ w. w .compared)
+    compared ps _ _ octets words r o (λ zero. long kind ps counter a (given-passed _ _ zero .0)) (λ w. w .chosen .compared)

@@ -1,6 +1,6 @@
 -- Every call's promise fixes its answer and what it leaves: two that it allows, for the same inputs and entry buffers, are the same.
 -- Assumes nothing.
-use mathlib.Core.Path.{_≡_, _∙_}
+use mathlib.Core.Path.{_≡_}
 use mathlib.Core.List.{List}
 use Prim.Native.Nat.{ℕ}
 use native.Mathlib.Omega.{arith}
@@ -11,11 +11,10 @@ use Rattle.laws.specs.Ladder.{ladder}
 use Rattle.laws.proofs.AnswerLaws.{fixed, determined}
 use Rattle.laws.proofs.LadderLaws.{given-passed}
 use Rattle.modes.specs.declared.Kind.{Kind}
-use Rattle.modes.specs.Kinds.{heeded}
 use Rattle.modes.specs.Sizes.{octetsOf}
 use Rattle.modes.specs.Pdus.{Pdu, lengthOf}
 use Rattle.modes.specs.Refusals.{decodeDescribed}
-use Rattle.modes.proofs.KindLaws.{encode-legal, heeded-described}
+use Rattle.modes.proofs.KindLaws.{decode-legal}
 use Rattle.unique.specs.Sameness.{Octets}
 use Rattle.modem.specs.Encode.{Encode}
 use Rattle.modem.specs.Ideal.{Ideal}
@@ -57,7 +56,7 @@ train-back : (kind : Kind) (ps : List Pdu) (counter a : ℕ) → ladder (decodeD
     → trainOf kind counter (lengthOf ps) x ≡ trainOf kind counter (lengthOf ps) y → take (octetsOf (lengthOf ps)) x ≡ take (octetsOf (lengthOf ps)) y
 unfolding trainOf
 train-back kind ps counter a zero x y hx hy =
-    let legal = encode-legal kind ps (heeded kind counter) a (heeded-described kind ps counter a ∙ zero) in
+    let legal = decode-legal kind ps counter a zero in
     entering-back kind counter (lengthOf ps) (octets-whole ps (legal .fit .each)) (omega (arith, legal .inside)) _ _ hx hy
 
 pub decode-soft-determined : (kind : Kind) (ps : List Pdu) (counter a : ℕ) (soft : List ℤ) (octets words : List ℕ) (r r′ : ℕ) (o o′ : Outcome)

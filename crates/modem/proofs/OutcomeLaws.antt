@@ -38,7 +38,7 @@ module _ (stands : List ℕ → List ℕ) (N symbols n : ℕ) (cost : List ℕ �
           n = (dx .all-sent ∙ sym (dy .all-sent)) t;
           cost = same-cost t;
           confirmed = same-confirmed t;
-          comparisons = one-number (dx .compared) (dy .compared) t;
+          comparisons = one-number (cx .compared) (cy .compared) t;
           octets = same-octets t;
           words = (cx .zeroed ∙ sym (cy .zeroed)) t;
         }

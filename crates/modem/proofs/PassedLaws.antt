@@ -17,7 +17,6 @@ use Rattle.modes.specs.Description.{FitList, LegalList, pdusIn, Describes}
 use Rattle.modes.proofs.RefusalLaws.{list-fit}
 use Rattle.modes.proofs.KindLaws.{encode-legal, heeded-described}
 use Rattle.modes.proofs.SizeLaws.{symbols-of-within, sent-of-within}
-use Rattle.trellis.specs.Compared.{Comparisons}
 use Rattle.modem.specs.Encode.{sentBit}
 use Rattle.modem.specs.Ideal.{listI, listQ}
 use Rattle.modem.specs.Soften.{listSoft}
@@ -95,14 +94,13 @@ passed-softened ps t p i q soft soft′ e = rw (p .list-is) at e
 -- what was chosen by the Train's fields was chosen by the description, of which a decode heeds the counter that it goes by
 pub passed-decoded : (kind : Kind) (ps : List Pdu) (counter a : ℕ) (t : Train) → Passed kind ps (heeded kind counter) a t
     → (soft soft′ : List ℤ) → soft′ ≡ soft → (octets words octets′ words′ : List ℕ) (n symbols sent cost : ℕ) (confirmed : Bool) (comparisons : ℕ)
-    → Tallied ps n symbols sent → Comparisons n comparisons
-    → Chosen (trainOf (t .kind) (t .counter) n) n (roundedCost (pdusIn t) (t .a) soft′) (differing (pdusIn t) (t .a)) octets words cost confirmed octets′ words′
+    → Tallied ps n symbols sent
+    → Chosen (trainOf (t .kind) (t .counter) n) n (roundedCost (pdusIn t) (t .a) soft′) (differing (pdusIn t) (t .a)) octets words cost confirmed comparisons octets′ words′
     → DecodedList kind ps counter a soft octets words (outcome symbols sent cost confirmed comparisons octets′ words′)
-passed-decoded kind ps counter a t p soft soft′ same octets words octets′ words′ n symbols sent cost confirmed comparisons count compared chosen = record {
+passed-decoded kind ps counter a t p soft soft′ same octets words octets′ words′ n symbols sent cost confirmed comparisons count chosen = record {
   chosen = rw (p .holds .list-is, p .holds .counter-is, p .holds .a-is, p .holds .kind-is, count .n-is, same, heeded-train kind counter (lengthOf ps)) at chosen;
   all-symbols = count .symbols-is;
   all-sent = count .sent-is;
-  compared = rw (count .n-is) at compared;
 }
 
 -- what was tested for the counter that a decode heeds was tested for the caller's

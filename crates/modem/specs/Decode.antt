@@ -3,7 +3,7 @@
 --   outcome          the same by its parts
 --   nothing          the outcome of a refused call
 --   trainOf          the train that octets stand for, as it enters the encoder
---   Chosen           what is wanted of a train that is chosen, its cost and its mark
+--   Chosen           what is wanted of a train that is chosen, its cost, its mark and its comparisons
 --   Decoded          the outcome that is wanted
 --   DecodedList      the same of a list of PDUs
 --   softRefusal      the refusals of `decode_soft`: 11, 1 to 9, and 12 after 6; of a BCH not 2
@@ -58,24 +58,24 @@ unfoldable pub trainOf : Kind → (counter N : ℕ) → List ℕ → List ℕ
 trainOf kind counter N octets = entering kind counter N (take (octetsOf N) octets)
 
 -- of all trains of N bits, by some cost and some count of differing bits: the octets stand for the one of least cost, of equals the one by
--- the rule; the cost is its cost; it is marked confirmed exactly when it is; octets behind N/8 are as they were; N + 6 words are zero, and
--- those behind them as they were
+-- the rule; the cost is its cost; it is marked confirmed exactly when it is; the comparisons are those of a search for it; octets behind N/8
+-- are as they were; N + 6 words are zero, and those behind them as they were
 pub record Chosen (stands : List ℕ → List ℕ) (N : ℕ) (cost : List ℕ → ℕ) (differing : List ℕ → List ℕ → ℕ) (octets words : List ℕ)
-    (c : ℕ) (confirmed : Bool) (octets′ words′ : List ℕ) : Type 0 where
+    (c : ℕ) (confirmed : Bool) (comparisons : ℕ) (octets′ words′ : List ℕ) : Type 0 where
   pub returned : Returned N cost (stands octets′)
   pub costs : c ≡ cost (stands octets′)
   pub only-then : confirmed ≡ true → Confirmed N cost differing (stands octets′)
   pub always-then : Confirmed N cost differing (stands octets′) → confirmed ≡ true
+  pub compared : Comparisons N comparisons
   pub octets-low : Octets (octetsOf N) (take (octetsOf N) octets′)
   pub kept : drop (octetsOf N) octets′ ≡ drop (octetsOf N) octets
   pub zeroed : words′ ≡ filled (N + 6) (λ _. 0) words
 
--- chosen by some cost and some count of differing bits; the train's symbols and sent bits; and how many comparisons a search for it takes
+-- chosen by some cost and some count of differing bits; and the train's symbols and sent bits
 pub record Decoded (stands : List ℕ → List ℕ) (N symbols n : ℕ) (cost : List ℕ → ℕ) (differing : List ℕ → List ℕ → ℕ) (octets words : List ℕ) (o : Outcome) : Type 0 where
-  pub chosen : Chosen stands N cost differing octets words (o .cost) (o .confirmed) (o .octets) (o .words)
+  pub chosen : Chosen stands N cost differing octets words (o .cost) (o .confirmed) (o .comparisons) (o .octets) (o .words)
   pub all-symbols : o .symbols ≡ symbols
   pub all-sent : o .n ≡ n
-  pub compared : Comparisons N (o .comparisons)
 
 -- a train of a list of PDUs, chosen by the rounded cost of the sent bits, all of them heard
 abbrev pub DecodedList : Kind → List Pdu → (counter a : ℕ) → List ℤ → (octets words : List ℕ) → Outcome → Type 0

@@ -35,6 +35,7 @@ pub struct Answer {
 pub(crate) struct Found {
     cost: u32,
     confirmed: bool,
+    comparisons: u32,
 }
 
 // Room for the longest train.
@@ -64,9 +65,9 @@ fn pick(
     octets: &mut [u8],
     words: &mut [u64],
 ) -> Found
-    requires { ⌜ (counter ≤ 15) × (4 ≤ n) × (n ≤ 3456) × (n % 8 ≡ 0) ⌝ }
+    requires { ⌜ (counter ≤ 15) × (6 ≤ n) × (n ≤ 3456) × (n % 8 ≡ 0) ⌝ }
     requires { ⌜ (2 * (n + 6) ≤ length (now heard)) × (octetsOf n ≤ length (now octets)) × (n + 6 ≤ length (now words)) ⌝ }
-    ensures { λ r. ⌜ Chosen (trainOf kind counter n) n (trellis.trainCost (costOf (now (heard .entry))) n) (trellis.differing (heardOf (now (heard .entry))) n) (now (octets .entry)) (now (words .entry)) (r .cost) (r .confirmed) (now (octets .exit)) (now (words .exit)) ⌝ }
+    ensures { λ r. ⌜ Chosen (trainOf kind counter n) n (trellis.trainCost (costOf (now (heard .entry))) n) (trellis.differing (heardOf (now (heard .entry))) n) (now (octets .entry)) (now (words .entry)) (r .cost) (r .confirmed) (r .comparisons) (now (octets .exit)) (now (words .exit)) ⌝ }
 {
     let mut scrambled = train_room();
     let cost = search::search(n, heard, &mut scrambled, words);
@@ -74,7 +75,11 @@ fn pick(
     let first = modes::first_scrambled(kind);
     let own = counter_of(kind, counter, &scrambled);
     coder::descramble(first, own, n, &scrambled, octets);
-    Found { cost, confirmed }
+    Found {
+        cost,
+        confirmed,
+        comparisons: trellis::comparisons(n),
+    }
 }
 
 // The same by soft bytes, when all has been tested: they go back to their coded bits, and what was not sent is not heard.
@@ -88,7 +93,7 @@ pub(crate) fn find(
     requires { ⌜ LegalList (pdusIn train) (train .counter) (train .a) × (n ≡ lengthOf (pdusIn train)) ⌝ }
     requires { ⌜ (length (now soft) ≡ sentOf (pdusIn train)) × (allSoft (now soft) ≡ true) ⌝ }
     requires { ⌜ (octetsOf n ≤ length (now octets)) × (n + 6 ≤ length (now words)) ⌝ }
-    ensures { λ r. ⌜ Chosen (trainOf (train .kind) (train .counter) n) n (roundedCost (pdusIn train) (train .a) (now (soft .entry))) (differing (pdusIn train) (train .a)) (now (octets .entry)) (now (words .entry)) (r .cost) (r .confirmed) (now (octets .exit)) (now (words .exit)) ⌝ }
+    ensures { λ r. ⌜ Chosen (trainOf (train .kind) (train .counter) n) n (roundedCost (pdusIn train) (train .a) (now (soft .entry))) (differing (pdusIn train) (train .a)) (now (octets .entry)) (now (words .entry)) (r .cost) (r .confirmed) (r .comparisons) (now (octets .exit)) (now (words .exit)) ⌝ }
 {
     let kind = train.kind;
     let counter = train.counter;
@@ -135,9 +140,9 @@ pub(crate) fn refused(refusal: u32) -> Answer
     }
 }
 
-pub(crate) fn done(symbols: usize, sent: usize, found: Found, comparisons: u32) -> Answer
+pub(crate) fn done(symbols: usize, sent: usize, found: Found) -> Answer
     requires { ⌜ (symbols ≤ 144) × (sent ≤ 6912) ⌝ }
-    ensures { λ r. ⌜ Tells 0 symbols sent (found .cost) (found .confirmed) comparisons (r .refusal) (r .symbols) (r .n) (r .cost) (r .confirmed) (r .comparisons) ⌝ }
+    ensures { λ r. ⌜ Tells 0 symbols sent (found .cost) (found .confirmed) (found .comparisons) (r .refusal) (r .symbols) (r .n) (r .cost) (r .confirmed) (r .comparisons) ⌝ }
 {
     Answer {
         refusal: 0,
@@ -145,7 +150,7 @@ pub(crate) fn done(symbols: usize, sent: usize, found: Found, comparisons: u32) 
         n: sent as u32,
         cost: found.cost,
         confirmed: found.confirmed,
-        comparisons,
+        comparisons: found.comparisons,
     }
 }
 
@@ -179,6 +184,5 @@ pub fn decode_soft(
         return refused(late);
     }
     let found = find(train, n, soft, octets, words);
-    let comparisons = trellis::comparisons(n);
-    done(counts.symbols, counts.sent, found, comparisons)
+    done(counts.symbols, counts.sent, found)
 }

@@ -100,7 +100,7 @@ fn find_by_readings(
     requires { ⌜ LegalList (pdusIn train) (train .counter) (train .a) × (n ≡ lengthOf (pdusIn train)) × (sent ≡ sentOf (pdusIn train)) ⌝ }
     requires { ⌜ (length (now i) ≡ carriersOf (pdusIn train)) × (length (now q) ≡ carriersOf (pdusIn train)) ⌝ }
     requires { ⌜ (octetsOf n ≤ length (now octets)) × (n + 6 ≤ length (now words)) ⌝ }
-    ensures { λ r. ⌜ Chosen (trainOf (train .kind) (train .counter) n) n (roundedCost (pdusIn train) (train .a) (softened (pdusIn train) (now (i .entry)) (now (q .entry)))) (differing (pdusIn train) (train .a)) (now (octets .entry)) (now (words .entry)) (r .cost) (r .confirmed) (now (octets .exit)) (now (words .exit)) ⌝ }
+    ensures { λ r. ⌜ Chosen (trainOf (train .kind) (train .counter) n) n (roundedCost (pdusIn train) (train .a) (softened (pdusIn train) (now (i .entry)) (now (q .entry)))) (differing (pdusIn train) (train .a)) (now (octets .entry)) (now (words .entry)) (r .cost) (r .confirmed) (r .comparisons) (now (octets .exit)) (now (words .exit)) ⌝ }
 {
     let mut soft = soft_room();
     soften_train(train, i, q, &mut soft);
@@ -137,6 +137,5 @@ pub fn decode_readings(
         return refused(late);
     }
     let found = find_by_readings(train, n, counts.sent, i, q, octets, words);
-    let comparisons = trellis::comparisons(n);
-    done(counts.symbols, counts.sent, found, comparisons)
+    done(counts.symbols, counts.sent, found)
 }

@@ -99,6 +99,10 @@ encode-described Bch ps counter a zero = ladder-front (listDescribed ps counter 
 pub encode-legal : (kind : Kind) (ps : List Pdu) (counter a : ℕ) → ladder (encodeDescribed kind ps counter a) ≡ 0 → LegalList ps counter a
 encode-legal kind ps counter a zero = list-legal ps counter a (encode-described kind ps counter a zero)
 
+-- and one that a decode does not refuse, by the counter that it heeds
+pub decode-legal : (kind : Kind) (ps : List Pdu) (counter a : ℕ) → ladder (decodeDescribed kind ps counter a) ≡ 0 → LegalList ps (heeded kind counter) a
+decode-legal kind ps counter a zero = encode-legal kind ps (heeded kind counter) a (heeded-described kind ps counter a ∙ zero)
+
 -- the one list that a BCH has
 one-list : (ps : List Pdu) → length ps ≡ 1 → lengthOf ps ≡ 120 → firstMode ps ≡ 1 → ps ≡ one 1 120
 unfolding sumOf

@@ -1,6 +1,8 @@
 -- `juzambore_decode_readings` answers what `modem::decode_readings` answers, its mark as 1 or 0.
 -- Assumes nothing.
 use borrow.Author.Needs.{needs}
+use Rattle.modem.specs.Decode.{DecodeReadings}
+use Rattle.modem.proofs.ToldLaws.{told}
 use Rattle.juzambore.proofs.juzambore_decode_readings.Statement.{statement}
 use Rattle.juzambore.proofs.juzambore_decode_readings.Tie as tie
 
@@ -10,8 +12,8 @@ kind-of-requires c κs = search needs
 decode-readings-requires : tie.Need-decode-readings-requires
 decode-readings-requires c κs = search needs
 
-flag-requires : tie.Need-flag-requires
-flag-requires c κs = search needs
+told-requires : tie.Need-told-requires
+told-requires c κs = search needs
 
 same-length : tie.Need-same-length
 same-length c = search needs
@@ -20,8 +22,9 @@ same-length-2 : tie.Need-same-length-2
 same-length-2 c = search needs
 
 returns : tie.Need-returns
-returns c = (rw (← c .before .before .before .before .before .before .before .before .kind-of .ensures, c .flag .ensures .1) (c .before .before .before .before .before .decode-readings .ensures), c .flag .ensures .0)
+unfolding DecodeReadings
+returns c =
+    (told _ _ _ _ _ (rw (← c .before .before .before .before .before .before .before .before .kind-of .ensures) (c .before .before .before .before .before .decode-readings .ensures)) (c .told .ensures .0), c .told .ensures .1)
 
 pub juzambore-decode-readings-spec : {M : Type 1} → statement M
-juzambore-decode-readings-spec =
-    tie.close (tie.spec kind-of-requires decode-readings-requires flag-requires same-length same-length-2 returns)
+juzambore-decode-readings-spec = tie.close (tie.spec kind-of-requires decode-readings-requires told-requires same-length same-length-2 returns)

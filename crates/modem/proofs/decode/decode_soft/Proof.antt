@@ -4,7 +4,6 @@ use mathlib.Core.Path.{_≡_, refl, sym, _∙_}
 use mathlib.Core.Bool.{not}
 use mathlib.Core.List.{List}
 use Prim.Native.Nat.{_+_, _≤_}
-use native.Mathlib.Omega.{arith}
 use lib.Dec.{eqb}
 use lib.ListN.{length}
 use borrow.Author.Needs.{needs}
@@ -106,13 +105,8 @@ find-requires c κs =
       ((eqb-true _ _ (not-false _ wrong) ∙ at .before .before .before .before .counts-of .ensures .2, sym (at .before .before .soft-ok .ensures) ∙ not-false _ outside), room),
     )
 
-comparisons-requires : tie.Need-comparisons-requires
-comparisons-requires c κs =
-    let count = c .before .before .before .before .before .before .before .before .before .before .before .before in
-    (omega (arith, counted count .n-is, known (count .before) .legal .inside), omega (arith, small count .0))
-
 done-requires : tie.Need-done-requires
-done-requires c κs = let count = c .before .before .before .before .before .before .before .before .before .before .before .before .before in (small count .1, small count .2)
+done-requires c κs = (small (c .before .before .before .before .before .before .before .before .before .before .before .before) .1, small (c .before .before .before .before .before .before .before .before .before .before .before .before) .2)
 
 same-length : tie.Need-same-length
 same-length c = search needs
@@ -123,11 +117,11 @@ same-length-2 c = search needs
 returns-3 : tie.Need-returns-3
 unfolding DecodeSoft softRefusal
 returns-3 c =
-    let at = c .before .before .before .before .before .before .before .before .before .before in
+    let at = c .before .before .before .before .before .before .before .before .before in
     let train = at .before .before .before .before .before in
     told _ _ _ _ _
-    (all-done _ _ _ _ _ _ _ (heard train) (sym (late at) ∙ c .before .before .before .before .before .before .before .before .before .if2 .left) _
-    (passed-decoded _ _ _ _ _ (known train) _ _ refl _ _ _ _ _ _ _ _ _ _ (counted (at .before .before .before .before)) (c .before .comparisons .ensures) (c .before .before .before .before .before .before .find .ensures)))
+    (all-done _ _ _ _ _ _ _ (heard train) (sym (late at) ∙ c .before .before .before .before .before .before .before .before .if2 .left) _
+    (passed-decoded _ _ _ _ _ (known train) _ _ refl _ _ _ _ _ _ _ _ _ _ (counted (at .before .before .before .before)) (c .before .before .before .before .before .find .ensures)))
     (c .done .ensures)
 
 pub decode-soft-spec : {M : Type 1} → statement M
@@ -146,7 +140,6 @@ decode-soft-spec =
     refused-requires-2
     returns-2
     find-requires
-    comparisons-requires
     done-requires
     same-length
     same-length-2

@@ -46,7 +46,7 @@ returns c =
     let legal = start .pre .0 .0 in
     let by-place = rw (spread .before .before .coded-room .ensures .1) at (spread .spread-train .ensures) in
     let heard = all-heard (start .args .soft .now) (start .pre .1 .0 .1) in
-    chosen-same _ _ _ _ _ _ _ _ _ _ _ _
+    chosen-same _ _ _ _ _ _ _ _ _ _ _ _ _
     (rw (start .pre .0 .1) (same-cost _ _ (legal .fit .each) (legal .inside) _ _ 6924 by-place (λ q h. heard q)))
     (rw (start .pre .0 .1) (same-differing _ _ (legal .fit .each) (legal .inside) _ _ 6924 by-place (λ q h. heard q)))
     (c .before .before .before .before .pick .ensures)

@@ -46,6 +46,12 @@ descramble-requires c κs =
     let start = room .before .before .before .before in
     (omega (arith, c .before .before .counter-of .ensures .1, start .pre .0 .0), start .pre .0 .2, omega (arith, searched .search .kept .1 .1 .0, room .train-room .ensures), start .pre .1 .1)
 
+comparisons-requires : tie.Need-comparisons-requires
+comparisons-requires c κs =
+    let searched = c .before .before .before .before .before .before .before .before .before .before .before .before .before in
+    let start = searched .before .before .before .before .before .before .before in
+    (start .pre .0 .1, omega (arith, start .pre .0 .2))
+
 same-length : tie.Need-same-length
 same-length c = search needs
 
@@ -54,10 +60,10 @@ same-length-2 c = search needs
 
 returns : tie.Need-returns
 returns c =
-    let searched = c .before .before .before .before .before .before .before .before .before .before .before .before .before in
+    let searched = c .before .before .before .before .before .before .before .before .before .before .before .before .before .before in
     let start = searched .before .before .before .before .before .before .before in
-    pick-chosen _ _ _ _ _ _ (c .before .before .descramble .ensures) _ _ _ _ _ _ _ _ (start .pre .0 .3) (start .pre .0 .1)
-    (c .before .before .before .before .before .before .before .first-scrambled .ensures) (c .before .before .before .before .before .counter-of .ensures .0) (searched .search .ensures) (c .before .before .before .before .before .before .before .before .mark .ensures)
+    pick-chosen _ _ _ _ _ _ (c .before .before .before .descramble .ensures) _ _ _ _ _ _ _ _ _ (start .pre .0 .3) (start .pre .0 .1)
+    (c .before .before .before .before .before .before .before .before .first-scrambled .ensures) (c .before .before .before .before .before .before .counter-of .ensures .0) (searched .search .ensures) (c .before .before .before .before .before .before .before .before .before .mark .ensures) (c .comparisons .ensures)
 
 pub pick-spec : {M : Type 1} → statement M
 pick-spec =
@@ -73,6 +79,7 @@ pick-spec =
     counter-of-requires
     slice-aggregate-descramble
     descramble-requires
+    comparisons-requires
     same-length
     same-length-2
     returns)

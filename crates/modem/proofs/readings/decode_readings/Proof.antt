@@ -111,13 +111,8 @@ find-by-readings-requires c κs =
       ((on-i ∙ sym (ap carriersOf same), on-q ∙ sym (ap carriersOf same)), room),
     )
 
-comparisons-requires : tie.Need-comparisons-requires
-comparisons-requires c κs =
-    let count = c .before .before .before .before .before .before .before .before .before .before .before .before in
-    (omega (arith, counted count .n-is, known (count .before) .legal .inside), omega (arith, small count .0))
-
 done-requires : tie.Need-done-requires
-done-requires c κs = let count = c .before .before .before .before .before .before .before .before .before .before .before .before .before in (small count .1, small count .2)
+done-requires c κs = (small (c .before .before .before .before .before .before .before .before .before .before .before .before) .1, small (c .before .before .before .before .before .before .before .before .before .before .before .before) .2)
 
 same-length : tie.Need-same-length
 same-length c = search needs
@@ -128,14 +123,14 @@ same-length-2 c = search needs
 returns-3 : tie.Need-returns-3
 unfolding DecodeReadings readingsRefusal
 returns-3 c =
-    let at = c .before .before .before .before .before .before .before .before .before .before in
+    let at = c .before .before .before .before .before .before .before .before .before in
     let train = at .before .before .before .before .before in
     let start = entry train in
     told _ _ _ _ _
-    (all-done _ _ _ _ _ _ _ (heard train) (sym (late at) ∙ c .before .before .before .before .before .before .before .before .before .if2 .left) _
+    (all-done _ _ _ _ _ _ _ (heard train) (sym (late at) ∙ c .before .before .before .before .before .before .before .before .if2 .left) _
     (passed-decoded _ _ _ _ _ (known train) _ _
     (ap (λ (ps : List Pdu). softened ps (start .args .i .now) (start .args .q .now)) (known train .holds .list-is))
-    _ _ _ _ _ _ _ _ _ _ (counted (at .before .before .before .before)) (c .before .comparisons .ensures) (c .before .before .before .before .before .before .find-by-readings .ensures)))
+    _ _ _ _ _ _ _ _ _ _ (counted (at .before .before .before .before)) (c .before .before .before .before .before .find-by-readings .ensures)))
     (c .done .ensures)
 
 pub decode-readings-spec : {M : Type 1} → statement M
@@ -155,7 +150,6 @@ decode-readings-spec =
     refused-requires-2
     returns-2
     find-by-readings-requires
-    comparisons-requires
     done-requires
     same-length
     same-length-2
