@@ -1,5 +1,7 @@
 // Scrambler, tail and encoder (000, 5.2 and 5.3.1): the coded bits of a train, X and Y of each input in turn; and (octets.rt) a
 // scrambled train back to octets. It refuses nothing: its callers have tested what they lend.
+#![tactic(auto)]
+
 mod octets;
 
 ghost use Rattle.std.specs.Prelude.{◌≡◌, ◌+◌, ◌*◌, ◌/◌, ◌%◌, ◌<◌, ◌≤◌, ltb, length, set};
