@@ -1,6 +1,8 @@
 // The modes of document 01 (000, table 1), the kinds of train (kinds.rt), the description of a train as a list of PDUs, its sizes
 // (list.rt), and (refusals.rt) the refusals 11, 1 to 6 and 12. The numbers of a call are tested here, in the customer's order; what has
 // passed is a Train, which holds the PDUs with their modes. Lengths of slices, and what stands in them, are tested by the calls.
+#![tactic(auto)]
+
 mod kinds;
 mod list;
 mod order;
@@ -15,7 +17,7 @@ pub use kinds::{first_scrambled, heeded_counter};
 pub use list::{counts_of, train_of};
 pub use refusals::{refusal, sized_refusal};
 
-#[derive(Drop)]
+#[derive(Clone, Copy)]
 pub enum Constellation {
     Bpsk,
     Qpsk,
@@ -23,7 +25,7 @@ pub enum Constellation {
     Qam64,
 }
 
-#[derive(Drop)]
+#[derive(Clone, Copy)]
 pub enum Rate {
     Half,
     NineSixteenths,
@@ -31,26 +33,26 @@ pub enum Rate {
 }
 
 // A train of data, or the broadcast channel: one PDU of 120 bits in mode 1, of which the first four are the frame counter.
-#[derive(Drop)]
+#[derive(Clone, Copy)]
 pub enum Kind {
     Data,
     Bch,
 }
 
-#[derive(Drop)]
+#[derive(Clone, Copy)]
 pub struct Mode {
     pub constellation: Constellation,
     pub rate: Rate,
 }
 
-#[derive(Drop)]
+#[derive(Clone, Copy)]
 pub struct Pdu {
     pub mode: Mode,
     pub n: usize,
 }
 
 // What has to be known of a train besides its octets. Only the first `count` PDUs are meant.
-#[derive(Drop)]
+#[derive(Clone, Copy)]
 pub struct Train {
     pub kind: Kind,
     pub pdus: [Pdu; 16],

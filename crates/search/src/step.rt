@@ -15,7 +15,7 @@ const START: u16 = 4096;
 pub const HALF: u16 = 32768;
 
 // What the two coded bits of a step cost, each being 0 and 1.
-#[derive(Drop)]
+#[derive(Clone, Copy)]
 pub struct Pair {
     pub x0: u16,
     pub x1: u16,

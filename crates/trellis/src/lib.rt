@@ -1,5 +1,7 @@
 // The theory of the search: of all trains, the one of least cost, its tie rule and its mark; the two passes that find them. The one
 // function here needs no search.
+#![tactic(auto)]
+
 ghost use Rattle.std.specs.Prelude.{◌≤◌};
 ghost use Rattle.trellis.specs.Compared.{Comparisons};
 
