@@ -1,6 +1,8 @@
 // The inner mapper (000, 5.5 and table 5): a group of sent bits becomes a level on I and a level on Q, and these the point
 // in f32 that a carrier transmits, or the ideal reading of it. The interleaver is not here. Nothing is refused here:
 // callers test their lengths and groups, and the bits by `bits_ok`.
+#![tactic(auto)]
+
 ghost use Rattle.std.specs.Prelude.{◌≡◌, ◌+◌, ◌*◌, ◌<◌, ◌≤◌, length};
 ghost use Rattle.modes.specs.Modes.{bits_of};
 ghost use Rattle.points.specs.Levels.{table, level, level_i, level_q, value_of, all_bits};
