@@ -1,6 +1,8 @@
 // Which coded bit is sent where: P1, P2 and the interleaver as one selection; the sent bits by it, and (spread.rt) soft bytes back.
 // A train goes PDU by PDU: each has its own mode, P2 begun anew, and a share of P1's output that begins at `first`.
 // Nothing is refused here: callers have tested what they lend.
+#![tactic(auto)]
+
 mod interleaver;
 mod puncture;
 mod sheet;

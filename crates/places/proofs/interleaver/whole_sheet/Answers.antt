@@ -3,12 +3,8 @@
 use mathlib.Core.Path.{refl}
 use Rattle.laws.proofs.Tables.{tabled}
 use Rattle.places.specs.Interleaver.{unit, first_step, second_step, place_in_symbol, entry_of, sheet}
-use Rattle.places.proofs.interleaver.whole_sheet.Statement.{statement}
-use Rattle.places.proofs.interleaver.whole_sheet.Tie as tie
+use Rattle.places.proofs.interleaver.whole_sheet.Goals as goal
 
-returns : tie.Need-returns
+pub returns : goal.returns
 unfolding unit first_step second_step place_in_symbol entry_of sheet
 returns c = tabled sheet _ refl
-
-pub whole-sheet-spec : {M : Type 1} → statement M
-whole-sheet-spec = tie.close (tie.spec returns)
