@@ -1,6 +1,8 @@
 // Soft bytes (document 01): a reading is held to -2,048 to 2,048, and for each bit of its axis S, by squared distances to the
 // levels, is rounded to a soft byte. The code has S in closed form, proved to be that of specs/ for every reading. Nothing is
 // refused here: callers test their lengths, and soft bytes that they are given by `soft_ok`.
+#![tactic(auto)]
+
 ghost use Rattle.std.specs.Prelude.{◌≡◌, ◌+◌, ◌-◌, ◌*◌, ◌<◌, ◌≤◌, pos, ◌-ℤ◌, length};
 ghost use Rattle.laws.specs.Lists.{filled};
 ghost use Rattle.laws.specs.Signed.{counted};
