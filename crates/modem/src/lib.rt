@@ -2,6 +2,8 @@
 // every lent buffer as it was. None has a `requires`; the promise of each is one definition of specs/. A train is described by its
 // kind; by the count of its PDUs and their modes and lengths, in arrays of which the entries past the count are not read; by its frame
 // counter; and by a, where P1 begins. The far end is in decode.rt and readings.rt.
+#![tactic(auto)]
+
 mod decode;
 mod readings;
 

@@ -1,0 +1,25 @@
+-- `modem::mapped` keeps its promise, test by test (PointLaws).
+-- Assumes nothing.
+use mathlib.Core.Path.{◌≡◌}
+use Prim.Native.Nat.{◌*◌, ◌%◌, ◌^◌}
+use native.Mathlib.Omega.{arith}
+use Rattle.modes.specs.Modes.{bits}
+use Rattle.modem.proofs.PointLaws.{groups_of, refused_as, refusal_below_1, refusal_above_7, refusal_9, mapped_done}
+use Rattle.modem.proofs.mapped.Goals as goal
+
+pub returns-then-mode-lt1 : goal.returns-then-mode-lt1
+returns-then-mode-lt1 c = refused_as _ _ 1 _ _ _ (refusal_below_1 _ _ c.if-mode-lt1.true) (λ z. omega arith) c.refused_point.ensures
+
+pub returns-then-mode-gt7 : goal.returns-then-mode-gt7
+returns-then-mode-gt7 c =
+    refused_as _ _ 1 _ _ _ (refusal_above_7 _ _ c.if-mode-lt1.false c.if-mode-gt7.true) (λ z. omega arith) c.refused_point-then-mode-gt7.ensures
+
+pub returns-then-bits_per_carrier-group : goal.returns-then-bits_per_carrier-group
+returns-then-bits_per_carrier-group c =
+    let counted : 1 * 2 ^ c.bits_per_carrier.result % 2 ^ 32 ≡ 2 ^ bits c.args.mode = groups_of _ _ _ (omega arith) (omega arith) c.mode_of-m.ensures.0 c.bits_per_carrier.ensures.0 in
+    refused_as _ _ 9 _ _ _ (refusal_9 _ _ (omega arith) (omega arith) (omega (arith, counted))) (λ z. omega arith) c.refused_point-then-bits_per_carrier-group.ensures
+
+pub returns : goal.returns
+returns c =
+    let counted : 1 * 2 ^ c.bits_per_carrier.result % 2 ^ 32 ≡ 2 ^ bits c.args.mode = groups_of _ _ _ (omega arith) (omega arith) c.mode_of-m.ensures.0 c.bits_per_carrier.ensures.0 in
+    mapped_done _ _ _ _ _ (omega arith) (omega arith) (omega (arith, counted)) c.mode_of-m.ensures.0 c.point_of.ensures
