@@ -1,5 +1,7 @@
 // The search and the mark under C names, so that a host can hold each of them against other decoders. What is not fit to be searched
 // is answered with 4,294,967,295, and nothing is changed. The calls with document 01's refusals are those of `modem`.
+#![tactic(auto)]
+
 ghost use Rattle.gauge.specs.Gauge.{Tells, Gauged, Marks};
 
 const UNFIT: u32 = 4294967295;

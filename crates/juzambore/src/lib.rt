@@ -1,6 +1,8 @@
 // The public calls under C names, for the static library libjuzambore.a: `rt staticlib juzambore`. juzambore.h declares them.
 // Each carries the promise of its call in `modem`. A kind is a number, a slice is a pointer and a length, a list's two arrays are
 // pointers to sixteen numbers; lent buffers do not overlap.
+#![tactic(auto)]
+
 ghost use Rattle.std.specs.Prelude.{◌≡◌, ◌≤◌, eqb};
 ghost use Rattle.modes.specs.Kinds.{kind_of};
 ghost use Rattle.modes.specs.Pdus.{pdus_of};
