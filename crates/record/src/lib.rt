@@ -1,6 +1,8 @@
 // One record of the bench (document 01): 60 bytes in, the values of its line out. It encodes, takes ideal readings, decodes.
 // Refusals 1 to 6, of which 3 is for N above 432 too; refusal 10, for a record that was cut, is its reader's to give. Reading
 // and printing are not done here.
+#![tactic(auto)]
+
 ghost use Rattle.std.specs.Prelude.{◌≡◌, false, ◌≤◌, length};
 ghost use Rattle.laws.specs.Ladder.{ladder};
 ghost use Rattle.modes.specs.Sizes.{octets_of};
