@@ -1,4 +1,8 @@
 // The bench on the three records of document 01's example.
-fn main() {
-    bench_run::run();
+#![tactic(auto)]
+
+use std::io;
+
+fn main(rt: HostRuntime) -> io::Result<()> {
+    bench_run::run(&rt)
 }

@@ -1,4 +1,8 @@
 // The bench on 150 records and a cut one.
-fn main() {
-    bench_run::run();
+#![tactic(auto)]
+
+use std::io;
+
+fn main(rt: HostRuntime) -> io::Result<()> {
+    bench_run::run(&rt)
 }

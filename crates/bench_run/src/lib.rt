@@ -1,47 +1,53 @@
 // A whole run of the bench (document 01): records of 60 bytes from standard input until it ends, a line for each to standard
 // output. What a line says of a record is `record::line_of`; here is only reading and printing.
-use libc::{STDIN_FILENO, STDOUT_FILENO};
-use record::Line;
+#![tactic(auto)]
 
-fn print_number(number: u32) {
-    io::print_decimal(STDOUT_FILENO, number as u64);
-    io::write_all(STDOUT_FILENO, b" ");
+use record::Line;
+use std::io;
+use std::io::Read;
+
+fn print_line(rt: &impl Print, k: u64, line: Line) -> io::Result<()> {
+    let mark = char::from(record::mark_of(line.refusal, line.confirmed));
+    println!(rt;
+        "{k} {} {} {} {} {mark}",
+        line.refusal, line.symbols, line.n, line.cost
+    )
 }
 
-fn print_line(k: u64, line: Line) {
-    io::print_decimal(STDOUT_FILENO, k);
-    io::write_all(STDOUT_FILENO, b" ");
-    print_number(line.refusal);
-    print_number(line.symbols);
-    print_number(line.n);
-    print_number(line.cost);
-    io::write_all(
-        STDOUT_FILENO,
-        &[record::mark_of(line.refusal, line.confirmed), b'\n'],
-    );
+// Reads until all of the bytes have come or the input ends; how many came.
+fn read_full<R: Read>(input: &mut R, bytes: &mut [u8]) -> io::Result<usize> {
+    let mut got = 0;
+    while got < bytes.len() {
+        let more = input.read(&mut bytes[got..])?;
+        if more == 0 {
+            break;
+        }
+        got += more;
+    }
+    Ok(got)
 }
 
 // Reads record k and prints its line; false where the input has ended.
-fn next(k: u64) -> bool {
+fn next<R: Read>(rt: &impl Print, input: &mut R, k: u64) -> io::Result<bool> {
     let mut bytes = [0u8; 60];
-    let got = io::read_full(STDIN_FILENO, &mut bytes);
+    let got = read_full(input, &mut bytes)?;
     if got == 0 {
-        return false;
+        return Ok(false);
     }
     if got < 60 {
-        print_line(k, record::refused(10));
-        return false;
+        print_line(rt, k, record::refused(10))?;
+        return Ok(false);
     }
-    print_line(k, record::line_of(&bytes));
-    true
+    print_line(rt, k, record::line_of(&bytes))?;
+    Ok(true)
 }
 
-pub fn run() {
-    let mut k = 0;
-    while k < u64::MAX {
-        if !next(k) {
-            return;
+pub fn run(rt: &(impl Input + Print)) -> io::Result<()> {
+    let mut input = rt.reader();
+    for k in 0..u64::MAX {
+        if !next(rt, &mut input, k)? {
+            break;
         }
-        k += 1;
     }
+    Ok(())
 }
