@@ -60,7 +60,7 @@ fn put(digits: &[u8], count: usize, out: &mut [u8]) -> bool
 // The digits of the first word from `at` on; a dash stands for none.
 fn digits_of(text: &[u8], at: usize) -> &[u8] {
     let found = words::word(text, at);
-    if check::same(found, b"-") {
+    if found == b"-".as_slice() {
         return &found[..0];
     }
     found

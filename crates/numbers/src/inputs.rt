@@ -4,6 +4,7 @@ ghost use Rattle.std.specs.Prelude.{◌<◌, ◌≤◌, length};
 use crate::{bytes, shown, words};
 use modes::Kind;
 use shown::MARK;
+use std::io;
 use words::Field;
 
 // Puts the inputs of the encoder from `from` up to `end` in their places, in the scrambler's state s.
@@ -26,7 +27,13 @@ fn smaller(x: usize, y: usize) -> usize
     if x < y { x } else { y }
 }
 
-fn show_inputs(kind: Kind, counter: u32, octets: &[u8], inputs: &mut [u8])
+fn show_inputs(
+    rt: &impl Print,
+    kind: Kind,
+    counter: u32,
+    octets: &[u8],
+    inputs: &mut [u8],
+) -> io::Result<()>
     requires { (counter ≤ 15) × (length octets.now ≤ 14000) }
 {
     let first = modes::first_scrambled(kind);
@@ -34,30 +41,31 @@ fn show_inputs(kind: Kind, counter: u32, octets: &[u8], inputs: &mut [u8])
     let plain = smaller(first, many);
     fill(0, plain, 0, octets, inputs);
     fill(plain, many, 112 + counter, octets, inputs);
-    shown::digits(inputs);
+    shown::digits(rt, inputs)
 }
 
-pub(crate) fn inputs(text: &[u8], f: Field) -> Field {
+pub(crate) fn inputs(rt: &impl Print, text: &[u8], f: Field) -> io::Result<Field> {
     let named = words::kind_of(text, f);
     let kind = named.kind;
     let counter = words::number(text, named.last);
     if counter.value > 15 {
-        return words::failed();
+        return Ok(words::failed());
     }
     let mut octets = bytes::room();
     let given = bytes::list(text, counter, &mut octets);
     let room = words::room(text, given);
     if !room.good {
-        return room;
+        return Ok(room);
     }
     let many = given.value;
     let size = room.value;
     let mut made = [MARK; 7000];
     show_inputs(
+        rt,
         kind,
         counter.value as u32,
         &octets[0..many],
         &mut made[0..size],
-    );
-    room
+    )?;
+    Ok(room)
 }

@@ -18,6 +18,8 @@
 // how many elements are lent for the answer; all of them are printed, 7 where the call wrote nothing, or 100 for a soft byte.
 // The run ends at the first line that is none of these. host/reference.py makes the input and, from the documents, the output
 // that is expected.
+#![tactic(auto)]
+
 mod bytes;
 mod far;
 mod inputs;
@@ -25,13 +27,14 @@ mod shown;
 mod signed;
 mod words;
 
-ghost use Rattle.std.specs.Prelude.{◌≡◌, length};
+ghost use Rattle.std.specs.Prelude.{◌≡◌, ◌≤◌, length, IfOk};
 
-use libc::{STDIN_FILENO, STDOUT_FILENO};
 use shown::{MARK, MARK_READING};
+use std::io;
+use std::io::Read;
 use words::{Description, Field, Pdus};
 
-fn show_encode(d: Description, octets: &[u8], sent: &mut [u8]) {
+fn show_encode(rt: &impl Print, d: Description, octets: &[u8], sent: &mut [u8]) -> io::Result<()> {
     let kind = d.kind;
     let pdus = d.pdus;
     let modes = pdus.modes;
@@ -39,104 +42,116 @@ fn show_encode(d: Description, octets: &[u8], sent: &mut [u8]) {
     let refusal = modem::encode(
         kind, pdus.count, &modes, &lengths, d.counter, d.a, octets, sent,
     );
-    io::print_decimal(STDOUT_FILENO, refusal as u64);
-    shown::bits(sent);
+    rt.print(refusal)?;
+    shown::bits(rt, sent)
 }
 
-fn encode(text: &[u8], f: Field) -> Field {
+fn encode(rt: &impl Print, text: &[u8], f: Field) -> io::Result<Field> {
     let d = words::described(text, f);
     let mut octets = bytes::room();
     let given = bytes::list(text, d.last, &mut octets);
     let room = words::room(text, given);
     if !room.good {
-        return room;
+        return Ok(room);
     }
     let many = given.value;
     let size = room.value;
     let mut sent = [MARK; 7000];
-    show_encode(d, &octets[0..many], &mut sent[0..size]);
-    room
+    show_encode(rt, d, &octets[0..many], &mut sent[0..size])?;
+    Ok(room)
 }
 
-fn show_ideal(pdus: Pdus, sent: &[u8], i: &mut [i16], q: &mut [i16]) {
+fn show_ideal(
+    rt: &impl Print,
+    pdus: Pdus,
+    sent: &[u8],
+    i: &mut [i16],
+    q: &mut [i16],
+) -> io::Result<()> {
     let modes = pdus.modes;
     let lengths = pdus.lengths;
     let refusal = modem::ideal(pdus.count, &modes, &lengths, sent, i, q);
-    io::print_decimal(STDOUT_FILENO, refusal as u64);
-    io::write_all(STDOUT_FILENO, b" i");
-    shown::readings(i);
-    io::write_all(STDOUT_FILENO, b" q");
-    shown::readings(q);
+    print!(rt; "{refusal} i")?;
+    shown::readings(rt, i)?;
+    rt.print(" q")?;
+    shown::readings(rt, q)
 }
 
-fn ideal(text: &[u8], f: Field) -> Field {
+fn ideal(rt: &impl Print, text: &[u8], f: Field) -> io::Result<Field> {
     let pdus = words::pdus_of(text, f);
     let mut sent = bytes::room();
     let given = bytes::list(text, pdus.last, &mut sent);
     let room_i = words::room(text, given);
     let room_q = words::room(text, room_i);
     if !room_q.good {
-        return room_q;
+        return Ok(room_q);
     }
     let many = given.value;
     let size_i = room_i.value;
     let size_q = room_q.value;
     let mut i = [MARK_READING; 7000];
     let mut q = [MARK_READING; 7000];
-    show_ideal(pdus, &sent[0..many], &mut i[0..size_i], &mut q[0..size_q]);
-    room_q
+    show_ideal(
+        rt,
+        pdus,
+        &sent[0..many],
+        &mut i[0..size_i],
+        &mut q[0..size_q],
+    )?;
+    Ok(room_q)
 }
 
-fn mapped(text: &[u8], f: Field) -> Field {
+fn mapped(rt: &impl Print, text: &[u8], f: Field) -> io::Result<Field> {
     let mode = words::number(text, f);
     let group = words::number(text, mode);
     if !group.good {
-        return group;
+        return Ok(group);
     }
     let answer = modem::mapped(mode.value as u32, group.value as u32);
     let point = answer.point;
-    io::print_decimal(STDOUT_FILENO, answer.refusal as u64);
-    shown::float(point.i);
-    shown::float(point.q);
-    group
+    rt.print(answer.refusal)?;
+    shown::float(rt, point.i)?;
+    shown::float(rt, point.q)?;
+    Ok(group)
 }
 
 // Does what the line at `at` asks for.
-fn command(text: &[u8], at: usize) -> Field {
+fn command(rt: &impl Print, text: &[u8], at: usize) -> io::Result<Field> {
     let name = words::word(text, at);
     let f = Field {
         value: 0,
         at: words::after(text, at),
         good: true,
     };
-    if check::same(name, b"encode") {
-        return encode(text, f);
+    if name == b"encode".as_slice() {
+        return encode(rt, text, f);
     }
-    if check::same(name, b"inputs") {
-        return inputs::inputs(text, f);
+    if name == b"inputs".as_slice() {
+        return inputs::inputs(rt, text, f);
     }
-    if check::same(name, b"ideal") {
-        return ideal(text, f);
+    if name == b"ideal".as_slice() {
+        return ideal(rt, text, f);
     }
-    if check::same(name, b"mapped") {
-        return mapped(text, f);
+    if name == b"mapped".as_slice() {
+        return mapped(rt, text, f);
     }
-    far::command(text, name, f)
+    far::command(rt, text, name, f)
 }
 
-fn run(text: &[u8]) {
+fn run(rt: &impl Print, text: &[u8]) -> io::Result<()> {
     let mut at = 0;
     while at < text.len() {
-        let done = command(text, at);
+        let done = command(rt, text, at)?;
         if !done.good {
-            return;
+            return Ok(());
         }
         if done.at <= at {
-            return;
+            return Ok(());
         }
-        io::write_all(STDOUT_FILENO, b"\n");
+        rt.print("\n")?;
         at = done.at;
     }
+    Ok(())
 }
 
 fn text_room() -> [u8; 262144]
@@ -145,8 +160,23 @@ fn text_room() -> [u8; 262144]
     [0; 262144]
 }
 
-fn main() {
+// Reads until the buffer is full or the input ends; how many bytes came.
+fn read_full<R: Read>(input: &mut R, bytes: &mut [u8]) -> io::Result<usize>
+    ensures { IfOk result (λ n. n ≤ length bytes.new) }
+{
+    let mut got = 0;
+    while got < bytes.len() {
+        let more = input.read(&mut bytes[got..])?;
+        if more == 0 {
+            break;
+        }
+        got += more;
+    }
+    Ok(got)
+}
+
+fn main(rt: HostRuntime) -> io::Result<()> {
     let mut text = text_room();
-    let n = io::read_full(STDIN_FILENO, &mut text);
-    run(&text[..n]);
+    let n = read_full(&mut rt.reader(), &mut text)?;
+    run(&rt, &text[..n])
 }

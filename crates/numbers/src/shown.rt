@@ -1,7 +1,7 @@
 // What is printed of an answer: all elements of a lent buffer, as the call left them. A buffer is filled with MARK before it
 // is lent, so what a call did not write shows.
-use libc::STDOUT_FILENO;
 use modem::Answer;
+use std::io;
 
 // No bit, no ideal reading and no working word that is left has this value.
 pub(crate) const MARK: u8 = 7;
@@ -23,17 +23,18 @@ fn spell(bytes: &mut [u8]) {
 }
 
 // The bytes, a digit each. They are spelled out in place.
-pub(crate) fn digits(bytes: &mut [u8]) {
+pub(crate) fn digits(rt: &impl Print, bytes: &mut [u8]) -> io::Result<()> {
     spell(bytes);
-    io::write_all(STDOUT_FILENO, bytes);
+    rt.write_all(bytes)
 }
 
 // The sent bits.
-pub(crate) fn bits(sent: &mut [u8]) {
+pub(crate) fn bits(rt: &impl Print, sent: &mut [u8]) -> io::Result<()> {
     if sent.len() > 0 {
-        io::write_all(STDOUT_FILENO, b" ");
-        digits(sent);
+        rt.print(" ")?;
+        digits(rt, sent)?;
     }
+    Ok(())
 }
 
 // A reading without its sign.
@@ -46,60 +47,56 @@ fn size(r: i16) -> u16 {
     }
 }
 
-fn reading(r: i16) {
-    io::write_all(STDOUT_FILENO, b" ");
+fn reading(rt: &impl Print, r: i16) -> io::Result<()> {
+    rt.print(" ")?;
     if r < 0 {
-        io::write_all(STDOUT_FILENO, b"-");
+        rt.print("-")?;
     }
-    io::print_decimal(STDOUT_FILENO, size(r) as u64);
+    rt.print(size(r))
 }
 
 // The readings of one axis.
-pub(crate) fn readings(values: &[i16]) {
+pub(crate) fn readings(rt: &impl Print, values: &[i16]) -> io::Result<()> {
     let mut k = 0;
     while k < values.len() {
-        reading(values[k]);
+        reading(rt, values[k])?;
         k += 1;
     }
+    Ok(())
 }
 
-fn soft_byte(s: i8) {
-    reading(s as i16);
+fn soft_byte(rt: &impl Print, s: i8) -> io::Result<()> {
+    reading(rt, s as i16)
 }
 
 // The soft bytes, as numbers.
-pub(crate) fn soft_bytes(values: &[i8]) {
+pub(crate) fn soft_bytes(rt: &impl Print, values: &[i8]) -> io::Result<()> {
     let mut k = 0;
     while k < values.len() {
-        soft_byte(values[k]);
+        soft_byte(rt, values[k])?;
         k += 1;
     }
+    Ok(())
 }
 
 // The refusal, symbols, n and cost of a decode, its mark as the bench prints it, and its comparisons.
-pub(crate) fn answer(a: Answer) {
-    io::print_decimal(STDOUT_FILENO, a.refusal as u64);
-    io::write_all(STDOUT_FILENO, b" ");
-    io::print_decimal(STDOUT_FILENO, a.symbols as u64);
-    io::write_all(STDOUT_FILENO, b" ");
-    io::print_decimal(STDOUT_FILENO, a.n as u64);
-    io::write_all(STDOUT_FILENO, b" ");
-    io::print_decimal(STDOUT_FILENO, a.cost as u64);
-    io::write_all(
-        STDOUT_FILENO,
-        &[b' ', record::mark_of(a.refusal, a.confirmed), b' '],
-    );
-    io::print_decimal(STDOUT_FILENO, a.comparisons as u64);
-    io::write_all(STDOUT_FILENO, b" ");
+pub(crate) fn answer(rt: &impl Print, a: Answer) -> io::Result<()> {
+    let mark = char::from(record::mark_of(a.refusal, a.confirmed));
+    print!(rt;
+        "{} {} {} {} {mark} {} ",
+        a.refusal, a.symbols, a.n, a.cost, a.comparisons
+    )
 }
 
 // Octets in hexadecimal.
-pub(crate) fn octets(values: &[u8]) {
+pub(crate) fn octets(rt: &impl Print, values: &[u8]) -> io::Result<()> {
     let mut k = 0;
     while k < values.len() {
-        io::print_hex(STDOUT_FILENO, values[k] as u64, 2);
+        let octet = values[k];
+        print!(rt; "{octet:02x}")?;
         k += 1;
     }
+    Ok(())
 }
 
 // The first place from `at` on whose word is not `value`.
@@ -115,12 +112,10 @@ fn end_of(words: &[u64], at: usize, value: u64) -> usize {
 }
 
 // How many words at the front are zero, and where the marks after these end: at the last word, where all is well.
-pub(crate) fn words(values: &[u64]) {
+pub(crate) fn words(rt: &impl Print, values: &[u64]) -> io::Result<()> {
     let zeros = end_of(values, 0, 0);
-    io::write_all(STDOUT_FILENO, b" ");
-    io::print_decimal(STDOUT_FILENO, zeros as u64);
-    io::write_all(STDOUT_FILENO, b" ");
-    io::print_decimal(STDOUT_FILENO, end_of(values, zeros, MARK_WORD) as u64);
+    let end = end_of(values, zeros, MARK_WORD);
+    print!(rt; " {zeros} {end}")
 }
 
 // The bits of a float. Which ones a NaN has cannot be told: it shows as ffffffff.
@@ -128,7 +123,7 @@ fn pattern(x: f32) -> u32 {
     if x == x { f32::to_bits(x) } else { u32::MAX }
 }
 
-pub(crate) fn float(x: f32) {
-    io::write_all(STDOUT_FILENO, b" ");
-    io::print_hex(STDOUT_FILENO, pattern(x) as u64, 8);
+pub(crate) fn float(rt: &impl Print, x: f32) -> io::Result<()> {
+    let bits = pattern(x);
+    print!(rt; " {bits:08x}")
 }

@@ -12,7 +12,7 @@ const MOST: usize = 7000;
 
 // What was read last, a number or a count of bytes, and the place after its word. `good` is false once a word was not what
 // was asked for.
-#[derive(Drop)]
+#[derive(Clone, Copy)]
 pub(crate) struct Field {
     pub(crate) value: usize,
     pub(crate) at: usize,
@@ -198,13 +198,13 @@ pub(crate) fn kind_of(text: &[u8], f: Field) -> Named {
         at: after(text, f.at),
         good: f.good,
     };
-    if check::same(name, b"data") {
+    if name == b"data".as_slice() {
         return Named {
             kind: Kind::Data,
             last,
         };
     }
-    if check::same(name, b"bch") {
+    if name == b"bch".as_slice() {
         return Named {
             kind: Kind::Bch,
             last,
