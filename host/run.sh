@@ -8,7 +8,7 @@
 # and a fifth as many more for BCH. It needs cargo, rustc, python3, and what host/search/run.sh needs. Variables name the
 # tools, as host/machine.sh says, and
 #
-#     JUZAMBORE_LIB          a folder with ready libjuzambore.a and libgauge.a; without it `rt staticlib` makes both
+#     JUZAMBORE_LIB          a folder with ready libjuzambore.a and libgauge.a; without it host/libraries.sh makes both
 set -eu
 cd "$(dirname "$0")/.."
 work=$(mktemp -d)
@@ -18,10 +18,8 @@ trap 'rm -r "$work"' EXIT
 say() { printf '\n== %s\n' "$*"; }
 
 if [ -z "${JUZAMBORE_LIB:-}" ]; then
-    for name in juzambore gauge; do
-        say "rt staticlib $name"
-        rt staticlib $name > "$work/log" 2>&1 || { tail -n 20 "$work/log"; exit 1; }
-    done
+    say "host/libraries.sh"
+    host/libraries.sh
     JUZAMBORE_LIB=target/staticlib
 fi
 JUZAMBORE_LIB=$(cd "$JUZAMBORE_LIB" && pwd)

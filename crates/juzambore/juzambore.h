@@ -1,4 +1,4 @@
-/* The calls of libjuzambore.a (`rt staticlib juzambore`).
+/* The calls of libjuzambore.a (`host/libraries.sh juzambore`).
  *
  * Every input of any length is accepted. Each call tests what it is given and answers bad input with its refusal number
  * (0: done); it then changes no lent byte or word and reports zero for everything else. A lent buffer that is longer

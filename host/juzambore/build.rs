@@ -1,4 +1,4 @@
-//! Finds libjuzambore.a: in the folder that JUZAMBORE_LIB names, or else where `rt staticlib juzambore` puts it. A
+//! Finds libjuzambore.a: in the folder that JUZAMBORE_LIB names, or else where `host/libraries.sh` puts it. A
 //! folder whose name does not begin with / is taken from this package's own. A package that stands on this one finds
 //! the folder in DEP_JUZAMBORE_FOLDER.
 use std::{env, path::PathBuf};
@@ -11,7 +11,7 @@ fn main() {
     let folder = package.join(named.unwrap_or_else(|| MADE.into()));
     let library = folder.join("libjuzambore.a");
     if !library.exists() {
-        panic!("no {}: make it with `rt staticlib juzambore`, or name its folder in JUZAMBORE_LIB", library.display());
+        panic!("no {}: make it with `host/libraries.sh`, or name its folder in JUZAMBORE_LIB", library.display());
     }
     println!("cargo:rerun-if-env-changed=JUZAMBORE_LIB");
     println!("cargo:rerun-if-changed={}", library.display());

@@ -6,7 +6,7 @@
 # It needs a C compiler, rustc, libosmocore-dev and valgrind, or an emulator. Variables name the tools, as host/machine.sh
 # says, and
 #
-#     LIBRARY                a ready libgauge.a; without it `rt staticlib gauge` proves and makes one
+#     LIBRARY                a ready libgauge.a; without it host/libraries.sh proves and makes one
 set -eu
 cd "$(dirname "$0")/../.."
 work=$(mktemp -d)
@@ -16,7 +16,7 @@ trap 'rm -r "$work"' EXIT
 
 library=${LIBRARY:-target/staticlib/libgauge.a}
 if [ -z "${LIBRARY:-}" ]; then
-    rt staticlib gauge > "$work/log" 2>&1 || { tail -n 20 "$work/log"; exit 1; }
+    host/libraries.sh gauge
 fi
 rustc="${RUSTC:-rustc} ${RUSTFLAGS:-} -C opt-level=3"
 $rustc --crate-type staticlib -o "$work/libyardsticks.a" host/search/yardsticks.rs

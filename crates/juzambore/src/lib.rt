@@ -1,4 +1,4 @@
-// The public calls under C names, for the static library libjuzambore.a: `rt staticlib juzambore`. juzambore.h declares them.
+// The public calls under C names, for the static library libjuzambore.a: `host/libraries.sh juzambore`. juzambore.h declares them.
 // Each carries the promise of its call in `modem`. A kind is a number, a slice is a pointer and a length, a list's two arrays are
 // pointers to sixteen numbers; lent buffers do not overlap.
 #![tactic(auto)]
