@@ -113,6 +113,7 @@ pub(crate) fn room_short(n: usize, octets: usize, words: usize) -> bool
 
 // Refusals 7, 8 and 9, or the number that stands in its place: an input slice of the wrong length, an output or working slice too short,
 // a value that is not allowed.
+#[tactic(auto, unfolding(laws::specs::Ladder::ladder))]
 pub(crate) fn lent_refusal(number: u32, wrong: bool, short: bool, outside: bool) -> u32
     ensures { result ≡ ladder (lent number wrong short outside) }
 {

@@ -18,6 +18,7 @@ fn info_of(mode: u32) -> u32
 }
 
 // Refusals 3, 4 and 5: what a length is tested for.
+#[tactic(auto, unfolding(laws::specs::Ladder::ladder, crate::specs::Refusals::lengths))]
 fn length_refusal(info: u32, n: u32) -> u32
     requires { 0 < info }
     ensures { result ≡ ladder (lengths info n) }
@@ -38,6 +39,7 @@ fn length_refusal(info: u32, n: u32) -> u32
 }
 
 // Refusal 11, and then 1 for each PDU.
+#[tactic(auto, using(crate::proofs::TestLaws::list_empty, crate::proofs::TestLaws::list_above))]
 fn list_refusal(count: u32, modes: &[u32; 16]) -> u32
     ensures { (whatever : List ℕ) → result ≡ ladder (list_tests (pdus_of count modes.now whatever)) }
 {

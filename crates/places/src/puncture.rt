@@ -19,6 +19,7 @@ fn p1_kept(r: usize) -> usize
 }
 
 // The coded bit that P1 puts out at p.
+#[tactic(auto, using(crate::proofs::OriginLaws::p1_before, crate::proofs::OriginLaws::p1_inside, crate::proofs::OriginLaws::p1_behind))]
 fn p1_origin(a: usize, p: usize) -> usize
     requires { (a ≤ 6912) × (p ≤ 6912) }
     ensures { result ≡ origin (p1 a) p }

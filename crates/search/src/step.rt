@@ -80,6 +80,7 @@ fn better(cost: u16, gap: u16) -> u16
 }
 
 // Whether the way with the other oldest bit lies strictly above the way with this one.
+#[tactic(auto, unfolding(crate::specs::Stored::above))]
 pub fn is_above(gap: u16, oldest: u32) -> bool
     ensures { result ≡ above gap oldest }
 {

@@ -30,6 +30,7 @@ fn lowered(x: u32) -> i8
 }
 
 // A reading held, counted from -2,048: raised, -2,048 is 30,720 and 2,048 is 34,816.
+#[tactic(auto, using(crate::proofs::HeldLaws::held_by))]
 fn held_from(r: i16) -> u32
     ensures { (result ≡ counted 2048 (held r)) × (result ≤ 4096) }
 {
@@ -73,6 +74,7 @@ fn strength_of(v: usize, m: u32) -> u32
 }
 
 // The soft byte of the first of v bits, counted from -128: halves are rounded away from zero, which is 128 here.
+#[tactic(auto, using(crate::proofs::ClosedLaws::side_below, crate::proofs::ClosedLaws::side_above), unfolding(crate::specs::Closed::byte_from))]
 fn byte_of(v: usize, p: u32) -> u32
     requires { (1 ≤ v) × (v ≤ 3) × (p ≤ 4096) }
     ensures { (result ≡ byte_from v p) × (result < 256) }
@@ -134,6 +136,7 @@ pub fn soften(c: Constellation, carriers: usize, i: &[i16], q: &[i16], soft: &mu
 }
 
 // Whether every soft byte lies in -80 to 80.
+#[tactic(auto, using(crate::proofs::RangeLaws::soft_below, crate::proofs::RangeLaws::soft_above, laws::proofs::SignedLaws::kept))]
 pub fn soft_ok(soft: &[i8]) -> bool
     ensures { result ≡ all_soft soft.now }
 {

@@ -2,31 +2,21 @@
 -- Assumes nothing.
 use mathlib.Core.Path.{refl}
 use native.Mathlib.Omega.{arith}
+use borrow.Author.Rules.{rules}
 use mir.Syntax.{w8}
 use Rattle.laws.proofs.SignedLaws.{kept}
-use Rattle.soft.proofs.RangeLaws.{soft_below, soft_above, soft_again, soft_end}
+use Rattle.soft.proofs.RangeLaws.{soft_again, soft_end}
 use Rattle.soft.proofs.soft_ok.Goals as goal
 
 pub loop-k-init : goal.loop-k-init
 loop-k-init c = (omega arith, refl)
-
-pub returns-then-s-ltminus80 : goal.returns-then-s-ltminus80
-returns-then-s-ltminus80 c =
-    let was = c.loop-k in
-    soft_below _ was.k was.invariant.1 (omega arith) _ (kept w8 _ c.s-1.given refl) c.if-s-ltminus80.true
-
-pub returns-then-s-gt80 : goal.returns-then-s-gt80
-returns-then-s-gt80 c =
-    let was = c.loop-k in
-    soft_above _ was.k was.invariant.1 (omega arith) _ (kept w8 _ c.s-1.given refl)
-    c.if-s-ltminus80.false c.if-s-gt80.true
 
 pub loop-k-preserved : goal.loop-k-preserved
 loop-k-preserved c =
     let was = c.loop-k in (
       omega arith,
       soft_again _ was.k was.invariant.1 (omega arith) _ (kept w8 _ c.s-1.given refl)
-          c.if-s-ltminus80.false c.if-s-gt80.false,
+          (search rules) (search rules),
     )
 
 pub returns : goal.returns

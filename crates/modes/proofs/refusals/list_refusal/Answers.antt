@@ -2,14 +2,8 @@
 -- Assumes nothing.
 use mathlib.Core.Path.{refl, sym, ◌∙◌}
 use native.Mathlib.Omega.{arith}
-use Rattle.modes.proofs.TestLaws.{list_1_to_16, list_empty, list_above, mode_on, mode_below, mode_above, modes_done}
+use Rattle.modes.proofs.TestLaws.{list_1_to_16, mode_on, mode_below, mode_above, modes_done}
 use Rattle.modes.proofs.refusals.list_refusal.Goals as goal
-
-pub returns-then-count-lt1 : goal.returns-then-count-lt1
-returns-then-count-lt1 c = λ whatever. sym (list_empty _ _ whatever c.if-count-lt1.true)
-
-pub returns-then-count-gt16 : goal.returns-then-count-gt16
-returns-then-count-gt16 c = λ whatever. sym (list_above _ _ whatever c.if-count-lt1.false c.if-count-gt16.true)
 
 pub loop-k-init : goal.loop-k-init
 loop-k-init c = (omega arith, λ whatever. refl)
