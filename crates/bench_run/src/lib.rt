@@ -1,6 +1,10 @@
 // A whole run of the bench (document 01): records of 60 bytes from standard input until it ends, a line for each to standard
-// output. What a line says of a record is `record::line_of`; here is only reading and printing.
+// output. What a line says of a record is `record::line_of`; here is only reading and printing. `numbers` reads its input by
+// `read_full` too.
 #![tactic(auto)]
+
+ghost use Rattle.std.specs.Prelude.{◌<◌, ◌≤◌, length, take, IfOk};
+ghost use Rattle.std.specs.Io.KnownBytes.{Consumes, IsAtEnd};
 
 use record::Line;
 use std::io;
@@ -14,13 +18,17 @@ fn print_line(rt: &impl Print, k: u64, line: Line) -> io::Result<()> {
     )
 }
 
-// Reads until all of the bytes have come or the input ends; how many came.
-fn read_full<R: Read>(input: &mut R, bytes: &mut [u8]) -> io::Result<usize> {
+// Reads until all of the bytes have come or the input has ended; how many came.
+pub fn read_full<R: Read>(input: &mut R, bytes: &mut [u8]) -> io::Result<usize>
+    ensures fits { IfOk result (λ n. n ≤ length bytes.new) }
+    ensures came { IfOk result (λ n. Consumes (R.remaining input.old) (R.remaining input.new) (take n bytes.new)) }
+    ensures ended { IfOk result (λ n. n < length bytes.new → IsAtEnd (R.remaining input.new)) }
+{
     let mut got = 0;
     while got < bytes.len() {
         let more = input.read(&mut bytes[got..])?;
         if more == 0 {
-            break;
+            return Ok(got);
         }
         got += more;
     }

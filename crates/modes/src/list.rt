@@ -23,6 +23,7 @@ fn pdu_room() -> [Pdu; 16]
 }
 
 // The description of numbers that were not refused.
+#[tactic(auto, using(crate::proofs::PduLaws::pdus_of_length))]
 pub fn train_of(
     kind: Kind,
     count: u32,
@@ -50,6 +51,7 @@ pub fn train_of(
     }
 }
 
+#[tactic(auto, using(crate::proofs::DescriptionLaws::pdus_in_length))]
 pub fn counts_of(train: Train) -> Counts
     requires { FitList (pdus_in train) }
     ensures { (result.n ≡ length_of (pdus_in train)) × (result.symbols ≡ symbols_of (pdus_in train)) × (result.sent ≡ sent_of (pdus_in train)) }

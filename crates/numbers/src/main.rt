@@ -27,11 +27,10 @@ mod shown;
 mod signed;
 mod words;
 
-ghost use Rattle.std.specs.Prelude.{◌≡◌, ◌≤◌, length, IfOk};
+ghost use Rattle.std.specs.Prelude.{◌≡◌, length};
 
 use shown::{MARK, MARK_READING};
 use std::io;
-use std::io::Read;
 use words::{Description, Field, Pdus};
 
 fn show_encode(rt: &impl Print, d: Description, octets: &[u8], sent: &mut [u8]) -> io::Result<()> {
@@ -160,23 +159,8 @@ fn text_room() -> [u8; 262144]
     [0; 262144]
 }
 
-// Reads until the buffer is full or the input ends; how many bytes came.
-fn read_full<R: Read>(input: &mut R, bytes: &mut [u8]) -> io::Result<usize>
-    ensures { IfOk result (λ n. n ≤ length bytes.new) }
-{
-    let mut got = 0;
-    while got < bytes.len() {
-        let more = input.read(&mut bytes[got..])?;
-        if more == 0 {
-            break;
-        }
-        got += more;
-    }
-    Ok(got)
-}
-
 fn main(rt: HostRuntime) -> io::Result<()> {
     let mut text = text_room();
-    let n = read_full(&mut rt.reader(), &mut text)?;
+    let n = bench_run::read_full(&mut rt.reader(), &mut text)?;
     run(&rt, &text[..n])
 }

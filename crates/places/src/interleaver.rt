@@ -33,6 +33,7 @@ fn no_places() -> [u16; 288]
 }
 
 // The places of a symbol's bits, copied once; the loops read them through a lent array.
+#[tactic(auto, using(crate::proofs::SheetLaws::block_within))]
 pub fn symbol_places(c: Constellation) -> [u16; 288]
     ensures { result ≡ places_of (48 * bits_of c) (bits_of c) }
 {

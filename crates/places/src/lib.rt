@@ -71,6 +71,7 @@ fn send_pdu(mode: Mode, symbols: usize, a: usize, first: usize, coded: &[u8], se
 }
 
 // A train: its sent bits PDU by PDU at the front of `sent`, from its coded bits.
+#[tactic(auto, using(modes::proofs::DescriptionLaws::pdus_in_length))]
 pub fn send_train(train: Train, coded: &[u8], sent: &mut [u8])
     requires { TrainRoom (pdus_in train) train.a (length coded.now) (length sent.old) }
     ensures { sent.new ≡ filled (sent_of (pdus_in train)) (train_bit (pdus_in train) train.a coded.now) sent.old }

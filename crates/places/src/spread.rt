@@ -61,6 +61,7 @@ fn spread_pdu(mode: Mode, symbols: usize, a: usize, first: usize, soft: &[i8], h
 }
 
 // A train: its soft bytes PDU by PDU to their coded bits.
+#[tactic(auto, using(modes::proofs::DescriptionLaws::pdus_in_length))]
 pub fn spread_train(train: Train, soft: &[i8], heard: &mut [u8])
     requires { TrainRoom (pdus_in train) train.a (length heard.old) (length soft.now) }
     ensures { SpreadAll (pdus_in train) train.a soft.now heard.old heard.new }

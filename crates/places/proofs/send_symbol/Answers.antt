@@ -6,6 +6,11 @@ use native.Mathlib.Omega.{arith}
 use lib.ListN.{get_or}
 use Rattle.laws.proofs.ScatterLaws.{scattered_none, scattered_again}
 use Rattle.places.proofs.send_symbol.Goals as goal
+use Rattle.places.proofs.send_symbol.Goals.{After-wide}
+
+-- the place of bit k is within the symbol
+seat : (c : After-wide) → c.wide.result < c.args.size
+seat c = rw c.wide.ensures (c.requires.seats.within _ c.loop-k-test.true)
 
 pub loop-k-init : goal.loop-k-init
 loop-k-init c = (omega arith, scattered_none _ _ _ _ _)
@@ -16,8 +21,7 @@ source-from-requires c =
 
 pub overflow_add-to : goal.overflow_add-to
 overflow_add-to c =
-    let seat : c.wide.result < c.args.size = rw c.wide.ensures (c.requires.seats.within _ c.loop-k-test.true) in
-    omega (arith, seat)
+    omega (arith, seat (goal.at.overflow_add-to c).After-wide)
 
 pub bounds-coded-from : goal.bounds-coded-from
 bounds-coded-from c =
@@ -25,8 +29,7 @@ bounds-coded-from c =
 
 pub bounds-sent-to : goal.bounds-sent-to
 bounds-sent-to c =
-    let seat : c.wide.result < c.args.size = rw c.wide.ensures (c.requires.seats.within _ c.loop-k-test.true) in
-    omega (arith, seat, c.loop-k.invariant.1.long)
+    omega (arith, seat (goal.at.bounds-sent-to c).After-wide, c.loop-k.invariant.1.long)
 
 pub loop-k-preserved : goal.loop-k-preserved
 loop-k-preserved c =

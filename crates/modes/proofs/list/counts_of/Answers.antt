@@ -11,25 +11,22 @@ loop-k-init c = counted_none _
 
 pub overflow_add-n : goal.overflow_add-n
 overflow_add-n c =
-    let small : (c.loop-k.n ≤ 3456) × (c.loop-k.symbols ≤ 144) × (c.loop-k.sent ≤ 6912) = counted_small _ c.requires _ _ _ _ c.loop-k.invariant in
-    omega (arith, small.0, (held_fit _ _ c.loop-k-test.true c.requires.each).to_3456)
+    omega (arith, (counted_small _ c.requires _ _ _ _ c.loop-k.invariant).0, (held_fit _ _ c.loop-k-test.true c.requires.each).to_3456)
 
 pub symbols_of-symbols-requires : goal.symbols_of-symbols-requires
 symbols_of-symbols-requires c = held_fit _ _ c.loop-k-test.true c.requires.each
 
 pub overflow_add-symbols : goal.overflow_add-symbols
 overflow_add-symbols c =
-    let small : (c.loop-k.n ≤ 3456) × (c.loop-k.symbols ≤ 144) × (c.loop-k.sent ≤ 6912) = counted_small _ c.requires _ _ _ _ c.loop-k.invariant in
-    omega (arith, small.1, c.symbols_of-symbols.ensures.1)
+    omega (arith, (counted_small _ c.requires _ _ _ _ c.loop-k.invariant).1, c.symbols_of-symbols.ensures.1)
 
 pub sent_bits-sent-requires : goal.sent_bits-sent-requires
 sent_bits-sent-requires c = held_fit _ _ c.loop-k-test.true c.requires.each
 
 pub overflow_add-sent : goal.overflow_add-sent
 overflow_add-sent c =
-    let small : (c.loop-k.n ≤ 3456) × (c.loop-k.symbols ≤ 144) × (c.loop-k.sent ≤ 6912) = counted_small _ c.requires _ _ _ _ c.loop-k.invariant in
     let fit = held_fit _ _ c.loop-k-test.true c.requires.each in
-    omega (arith, small.2, c.sent_bits-sent.ensures, sent_within _ _ fit, fit.to_3456)
+    omega (arith, (counted_small _ c.requires _ _ _ _ c.loop-k.invariant).2, c.sent_bits-sent.ensures, sent_within _ _ fit, fit.to_3456)
 
 pub loop-k-preserved : goal.loop-k-preserved
 loop-k-preserved c =
@@ -38,10 +35,3 @@ loop-k-preserved c =
 
 pub returns : goal.returns
 returns c = counted_all _ c.requires _ _ _ _ c.loop-k.invariant c.loop-k-test.false
-
--- a fit list has 16 PDUs at most
-pub bounds-train-k : goal.bounds-train-k
-bounds-train-k c = omega (arith, c.requires.to_16, pdus_in_length c.args.train)
-
-pub offset_bounds-train-k : goal.offset_bounds-train-k
-offset_bounds-train-k c = omega (arith, c.requires.to_16, pdus_in_length c.args.train)

@@ -10,41 +10,6 @@ use Rattle.modes.proofs.list.train_of.Goals as goal
 pub loop-k-init : goal.loop-k-init
 loop-k-init c = (omega arith, record { long = c.pdu_room-pdus.ensures; holds = λ j h. absurd (omega arith) })
 
-pub offset_bounds-modes-k : goal.offset_bounds-modes-k
-offset_bounds-modes-k c =
-    let few : c.args.count ≤ 16 = omega (arith, c.requires.to_16, pdus_of_length c.args.count c.args.modes.now c.args.lengths.now) in
-    omega (arith, few)
-
-pub bounds-modes-k : goal.bounds-modes-k
-bounds-modes-k c =
-    let few : c.args.count ≤ 16 = omega (arith, c.requires.to_16, pdus_of_length c.args.count c.args.modes.now c.args.lengths.now) in
-    omega (arith, few)
-
-pub offset_bounds-lengths-k : goal.offset_bounds-lengths-k
-offset_bounds-lengths-k c =
-    let few : c.args.count ≤ 16 = omega (arith, c.requires.to_16, pdus_of_length c.args.count c.args.modes.now c.args.lengths.now) in
-    omega (arith, few)
-
-pub bounds-lengths-k : goal.bounds-lengths-k
-bounds-lengths-k c =
-    let few : c.args.count ≤ 16 = omega (arith, c.requires.to_16, pdus_of_length c.args.count c.args.modes.now c.args.lengths.now) in
-    omega (arith, few)
-
-pub offset_bounds-pdus-k : goal.offset_bounds-pdus-k
-offset_bounds-pdus-k c =
-    let few : c.args.count ≤ 16 = omega (arith, c.requires.to_16, pdus_of_length c.args.count c.args.modes.now c.args.lengths.now) in
-    omega (arith, few)
-
-pub bounds-pdus-k : goal.bounds-pdus-k
-bounds-pdus-k c =
-    let few : c.args.count ≤ 16 = omega (arith, c.requires.to_16, pdus_of_length c.args.count c.args.modes.now c.args.lengths.now) in
-    omega (arith, few)
-
-pub overflow_add-k : goal.overflow_add-k
-overflow_add-k c =
-    let few : c.args.count ≤ 16 = omega (arith, c.requires.to_16, pdus_of_length c.args.count c.args.modes.now c.args.lengths.now) in
-    omega (arith, few)
-
 pub loop-k-preserved : goal.loop-k-preserved
 loop-k-preserved c =
     let few : c.args.count ≤ 16 = omega (arith, c.requires.to_16, pdus_of_length c.args.count c.args.modes.now c.args.lengths.now) in

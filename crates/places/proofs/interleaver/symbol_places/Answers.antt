@@ -11,21 +11,6 @@ use Rattle.places.proofs.interleaver.symbol_places.Goals as goal
 pub loop-k-init : goal.loop-k-init
 loop-k-init c = (omega arith, sym (filled_none _ _), c.no_places-places.ensures.1)
 
-pub overflow_add-places : goal.overflow_add-places
-overflow_add-places c =
-    let on-sheet : c.block_of-block.result + c.loop-k.k < 624 = omega (arith, block_within c.args.c, c.block_of-block.ensures, c.bits_per_carrier.ensures.0) in
-    omega (arith, on-sheet)
-
-pub offset_bounds-sheet-block : goal.offset_bounds-sheet-block
-offset_bounds-sheet-block c =
-    let on-sheet : c.block_of-block.result + c.loop-k.k < 624 = omega (arith, block_within c.args.c, c.block_of-block.ensures, c.bits_per_carrier.ensures.0) in
-    omega (arith, on-sheet)
-
-pub bounds-sheet-block : goal.bounds-sheet-block
-bounds-sheet-block c =
-    let on-sheet : c.block_of-block.result + c.loop-k.k < 624 = omega (arith, block_within c.args.c, c.block_of-block.ensures, c.bits_per_carrier.ensures.0) in
-    on-sheet
-
 pub loop-k-preserved : goal.loop-k-preserved
 loop-k-preserved c =
     let inv = c.loop-k.invariant in (

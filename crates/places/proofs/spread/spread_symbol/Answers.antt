@@ -10,14 +10,18 @@ use Rattle.laws.specs.Signed.{counted}
 use Rattle.laws.proofs.SignedLaws.{kept}
 use Rattle.laws.proofs.ScatterLaws.{placed_none, placed_again}
 use Rattle.places.proofs.spread.spread_symbol.Goals as goal
+use Rattle.places.proofs.spread.spread_symbol.Goals.{After-wide}
+
+-- the place of bit k is within the symbol
+seat : (c : After-wide) → c.wide.result < c.args.size
+seat c = rw c.wide.ensures (c.requires.seats.within _ c.loop-k-test.true)
 
 pub loop-k-init : goal.loop-k-init
 loop-k-init c = (omega arith, placed_none _ _ _)
 
 pub overflow_add-from : goal.overflow_add-from
 overflow_add-from c =
-    let seat : c.wide.result < c.args.size = rw c.wide.ensures (c.requires.seats.within _ c.loop-k-test.true) in
-    omega (arith, seat)
+    omega (arith, seat (goal.at.overflow_add-from c).After-wide)
 
 pub source-to-requires : goal.source-to-requires
 source-to-requires c =
@@ -25,8 +29,7 @@ source-to-requires c =
 
 pub bounds-soft-from : goal.bounds-soft-from
 bounds-soft-from c =
-    let seat : c.wide.result < c.args.size = rw c.wide.ensures (c.requires.seats.within _ c.loop-k-test.true) in
-    omega (arith, seat)
+    omega (arith, seat (goal.at.bounds-soft-from c).After-wide)
 
 pub bounds-heard-to : goal.bounds-heard-to
 bounds-heard-to c =

@@ -9,42 +9,31 @@ use Rattle.modes.proofs.SizeLaws.{sent_within}
 use Rattle.places.specs.Sending.{SpreadAll}
 use Rattle.places.proofs.ListedLaws.{begins_none, begins_small, pdu_fit, begins_again, pdu_room, spread_on, begins_all}
 use Rattle.places.proofs.spread.spread_train.Goals as goal
+use Rattle.places.proofs.spread.spread_train.Goals.{In-loop-k}
+
+-- the soft bytes that were spread lie within what is lent
+inside : (c : In-loop-k) → c.loop-k.at ≤ length c.args.soft.now
+inside c = omega (arith, (begins_small _ _ _ c.requires _ _ _ c.loop-k.invariant.0).2, c.requires.room)
 
 pub loop-k-init : goal.loop-k-init
 loop-k-init c = (begins_none _, placed_none _ _ _)
-
-pub offset_bounds-train-k : goal.offset_bounds-train-k
-offset_bounds-train-k c =
-    let few : c.args.train.count ≤ 16 = omega (arith, c.requires.fit.to_16, pdus_in_length c.args.train) in
-    omega (arith, few)
-
-pub bounds-train-k : goal.bounds-train-k
-bounds-train-k c =
-    let few : c.args.train.count ≤ 16 = omega (arith, c.requires.fit.to_16, pdus_in_length c.args.train) in
-    omega (arith, few)
 
 pub symbols_of-symbols-requires : goal.symbols_of-symbols-requires
 symbols_of-symbols-requires c =
     pdu_fit _ _ _ c.requires _ _ _ c.loop-k.invariant.0 c.loop-k-test.true
 
 pub slice_bounds-spread_pdu-count : goal.slice_bounds-spread_pdu-count
-slice_bounds-spread_pdu-count c =
-    let inside : c.loop-k.at ≤ length c.args.soft.now = omega (arith, (begins_small _ _ _ c.requires _ _ _ c.loop-k.invariant.0).2, c.requires.room) in
-    inside
+slice_bounds-spread_pdu-count c = inside (goal.at.slice_bounds-spread_pdu-count c).In-loop-k
 
 pub slice_bounds-spread_pdu-start : goal.slice_bounds-spread_pdu-start
-slice_bounds-spread_pdu-start c =
-    let inside : c.loop-k.at ≤ length c.args.soft.now = omega (arith, (begins_small _ _ _ c.requires _ _ _ c.loop-k.invariant.0).2, c.requires.room) in
-    inside
+slice_bounds-spread_pdu-start c = inside (goal.at.slice_bounds-spread_pdu-start c).In-loop-k
 
 pub spread_pdu-requires : goal.spread_pdu-requires
 spread_pdu-requires c =
-    let inside : c.loop-k.at ≤ length c.args.soft.now = omega (arith, (begins_small _ _ _ c.requires _ _ _ c.loop-k.invariant.0).2, c.requires.room) in
     let soft = c.args.soft.now in
-    let rest = inside in
     rw c.loop-k.invariant.1.long
     (pdu_room _ _ _ c.requires _ _ _ c.loop-k.invariant.0 c.loop-k-test.true _ _ c.symbols_of-symbols.ensures.0
-    (omega (arith, rest, length-take (length soft - c.loop-k.at) (drop c.loop-k.at soft), length-drop c.loop-k.at soft)))
+    (omega (arith, inside (goal.at.spread_pdu-requires c).In-loop-k, length-take (length soft - c.loop-k.at) (drop c.loop-k.at soft), length-drop c.loop-k.at soft)))
 
 pub overflow_mul-first : goal.overflow_mul-first
 overflow_mul-first c =
@@ -62,11 +51,6 @@ pub overflow_add-at : goal.overflow_add-at
 overflow_add-at c =
     let fit = pdu_fit _ _ _ c.requires _ _ _ c.loop-k.invariant.0 c.loop-k-test.true in
     omega (arith, c.sent_bits-at.ensures, sent_within _ _ fit, fit.to_3456, (begins_small _ _ _ c.requires _ _ _ c.loop-k.invariant.0).1)
-
-pub overflow_add-k : goal.overflow_add-k
-overflow_add-k c =
-    let few : c.args.train.count ≤ 16 = omega (arith, c.requires.fit.to_16, pdus_in_length c.args.train) in
-    omega (arith, few)
 
 pub loop-k-preserved : goal.loop-k-preserved
 loop-k-preserved c =

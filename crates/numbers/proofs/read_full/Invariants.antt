@@ -1,9 +1,0 @@
--- `numbers::read_full`: what has come fits.
-use Rattle.std.proofs.Common.{length, ◌-◌, ◌≤◌}
-use Rattle.numbers.proofs.read_full.Given as goal
-
-abbrev pub invariant-loop-got : goal.invariant-loop-got
-invariant-loop-got g l = l.got ≤ length l.initial.bytes
-
-abbrev pub decreases-loop-got : goal.decreases-loop-got
-decreases-loop-got g l = length l.initial.bytes - l.got
