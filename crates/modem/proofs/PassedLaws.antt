@@ -1,6 +1,6 @@
 -- What is known once a description has passed its tests, is held as a Train and has been counted.
 -- Assumes nothing.
-use mathlib.Core.Path.{◌≡◌, sym, ◌∙◌, ap, subst}
+use mathlib.Core.Path.{◌≡◌, refl, sym, ◌∙◌, ap, subst}
 use mathlib.Core.Bool.{Bool}
 use mathlib.Core.List.{List}
 use Prim.Native.Nat.{ℕ, ◌*◌, ◌≤◌}
@@ -54,6 +54,20 @@ passed kind ps counter a t zero holds =
     let legal = encode_legal kind ps counter a zero in
     record { zero = zero; legal = legal; holds = holds; made = rw (holds.list_is, holds.counter_is, holds.a_is) legal }
 
+-- the same by the number that the tests gave
+pub sized_known : {kind : Kind} {ps : List Pdu} {counter a r : ℕ} {t : Train} → r ≡ ladder (list_sized ps) → r ≡ 0
+    → Describes kind ps counter a t → SizedPassed ps t
+sized_known tested zero holds = sized_passed _ _ _ _ _ (sym tested ∙ zero) holds
+
+pub passed_known : {kind : Kind} {ps : List Pdu} {counter a r : ℕ} {t : Train} → r ≡ ladder (encode_described kind ps counter a) → r ≡ 0
+    → Describes kind ps counter a t → Passed kind ps counter a t
+passed_known tested zero holds = passed _ _ _ _ _ (sym tested ∙ zero) holds
+
+-- a decode is tested for the counter that it heeds
+pub heeded_known : {kind : Kind} {ps : List Pdu} (counter : ℕ) {heeds a r : ℕ} {t : Train} → heeds ≡ heeded kind counter
+    → r ≡ ladder (encode_described kind ps heeds a) → r ≡ 0 → Describes kind ps heeds a t → Passed kind ps (heeded kind counter) a t
+heeded_known counter e tested zero holds = rw e at (passed_known tested zero holds)
+
 -- what was counted of the Train was counted of the list
 pub tallied : (ps : List Pdu) (t : Train) (n symbols sent : ℕ) → pdus_in t ≡ ps
     → (n ≡ length_of (pdus_in t)) × (symbols ≡ symbols_of (pdus_in t)) × (sent ≡ sent_of (pdus_in t)) → Tallied ps n symbols sent
@@ -74,6 +88,15 @@ tallied_small ps n symbols sent fit t =
       omega (arith, t.symbols_is, symbols_of_within ps fit.each, most),
       omega (arith, t.sent_is, sent_of_within ps fit.each, most),
     )
+
+-- so are those of a Train that holds a fit list
+pub train_small : (t : Train) {n symbols sent : ℕ} → FitList (pdus_in t)
+    → (n ≡ length_of (pdus_in t)) × (symbols ≡ symbols_of (pdus_in t)) × (sent ≡ sent_of (pdus_in t)) → (n ≤ 3456) × (symbols ≤ 144) × (sent ≤ 6912)
+train_small t fit counts = tallied_small (pdus_in t) _ _ _ fit (tallied (pdus_in t) t _ _ _ refl counts)
+
+-- a Train has 48 carriers for each of its symbols
+pub train_carriers : (t : Train) {symbols : ℕ} → symbols ≡ symbols_of (pdus_in t) → 48 * symbols ≡ carriers_of (pdus_in t)
+train_carriers t es = omega (arith, es, carriers_symbols (pdus_in t))
 
 -- what was sent by the Train's fields was sent by the description
 pub passed_sent : (kind : Kind) (ps : List Pdu) (counter a : ℕ) (t : Train) → Passed kind ps counter a t → (octets sent sent' : List ℕ)
