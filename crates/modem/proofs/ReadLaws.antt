@@ -3,6 +3,7 @@
 use mathlib.Core.Path.{◌≡◌, refl, sym, ◌∙◌, ap}
 use mathlib.Core.List.{List, [], ◌∷◌, ◌++◌}
 use Prim.Native.Nat.{ℕ, suc, ◌+◌, ◌-◌, ◌*◌, ◌≤◌, ◌<◌}
+use native.Mathlib.Nat.{le_trans, mul-le-mul_left}
 use native.Mathlib.Omega.{arith}
 use lib.IntN.{ℤ}
 use lib.ListN.{length, take, drop, length-drop}
@@ -12,7 +13,7 @@ use Rattle.laws.proofs.ListLaws.{part_all, filled_length, filled_part}
 use Rattle.modes.specs.declared.Constellation.{Constellation}
 use Rattle.modes.specs.declared.Train.{Train}
 use Rattle.modes.specs.Modes.{constellation_of, bits_of, number}
-use Rattle.modes.specs.Sizes.{carriers, sent_bits}
+use Rattle.modes.specs.Sizes.{symbols, carriers, sent_bits}
 use Rattle.modes.specs.Pdus.{Pdu, pdu_of, sum_of, pdu_carriers, pdu_sent, carriers_of, sent_of, share_of}
 use Rattle.modes.specs.Description.{Fit, FitList, held, pdus_in}
 use Rattle.modes.proofs.ModeLaws.{enums_back}
@@ -29,6 +30,19 @@ use Rattle.modem.proofs.SizeLaws.{carriers_exact, carriers_symbols}
 -- how long the part of a slice is that is left from a on
 part_length : {A : Type 0} (a : ℕ) (l : List A) → length (take (length l - a) (drop a l)) ≡ length l - a
 part_length a l = ap length (part_all a l) ∙ length-drop a l
+
+-- a PDU's carriers are 48 times its symbols
+pub carriers_48 : (mode N s : ℕ) → s ≡ symbols mode N → 48 * s ≡ carriers mode N
+unfolding carriers
+carriers_48 mode N s e = ap (λ (n : ℕ). 48 * n) e
+
+-- where there is room for the readings of n carriers, there is room for those of fewer
+pub fewer_room : (c : Constellation) (n m : ℕ) (sent : List ℕ) (i q : List ℤ) → Room c n sent i q → m ≤ n → Room c m sent i q
+fewer_room c n m sent i q room h = record {
+  enough = le_trans (mul-le-mul_left (bits_of c) h) room.enough;
+  on_i = omega arith;
+  on_q = omega arith;
+}
 
 -- where PDU k begins: among the sent bits, and among the carriers
 pub record Reached (t : Train) (k bits carriers : ℕ) : Type 0 where
@@ -55,6 +69,14 @@ module _ (t : Train) (fit : FitList (pdus_in t)) (k bits count : ℕ) (r : Reach
         omega (arith, r.bits_is, b),
         omega (arith, r.carriers_is, c),
       )
+
+  -- a buffer that is filled for the bits so far is as long as it was
+  pub bits_kept : (f : ℕ → ℤ) (old now : List ℤ) → now ≡ filled bits f old → sent_of (pdus_in t) ≤ length old → length now ≡ length old
+  bits_kept f old now is room = ap length is ∙ filled_length bits f old (omega (arith, reached_small.2))
+
+  -- a buffer that is filled for the carriers so far is as long as it was
+  pub carriers_kept : (f : ℕ → ℤ) (old now : List ℤ) → now ≡ filled count f old → carriers_of (pdus_in t) ≤ length old → length now ≡ length old
+  carriers_kept f old now is room = ap length is ∙ filled_length count f old (omega (arith, reached_small.3))
 
   module _ (h : k < t.count) where
     abbrev N : ℕ
@@ -134,7 +156,7 @@ module _ (t : Train) (fit : FitList (pdus_in t)) (k bits count : ℕ) (r : Reach
           → take count now ++ (part ++ drop (length now - count) (drop count now))
           ≡ filled (count + m) (λ j. ideal_by ideal sent (share_of pdu_carriers [] (pdus_in t) j)) axis₀
       read_on axis₀ now part m room is em written =
-          let lent : length now ≡ length axis₀ = ap length is ∙ filled_length count _ axis₀ (omega (arith, reached_small.3)) in
+          let lent : length now ≡ length axis₀ = carriers_kept _ axis₀ now is room in
           ap (λ (l : List ℤ). take count now ++ (l ++ drop (length now - count) (drop count now))) written
           ∙ filled_part count m (length now - count) _ _ axis₀ now is
           (omega (arith, lent, em, carriers_inside)) (omega (arith, em, carriers_inside)) (λ j less. ideal_own j (rw em at less))
@@ -156,7 +178,7 @@ module _ (t : Train) (fit : FitList (pdus_in t)) (k bits count : ℕ) (r : Reach
           (take (length now - bits) (drop bits now))
           → take bits now ++ (part ++ drop (length now - bits) (drop bits now)) ≡ filled (bits + n) (list_soft (pdus_in t) i q) soft₀
       soften_on soft₀ now part m n room is em en written =
-          let lent : length now ≡ length soft₀ = ap length is ∙ filled_length bits _ soft₀ (omega (arith, reached_small.2)) in
+          let lent : length now ≡ length soft₀ = bits_kept _ soft₀ now is room in
           let all : bits_of c * m ≡ n = ap (λ (x : ℕ). bits_of c * x) em ∙ more_bits ∙ sym en in
           ap (λ (l : List ℤ). take bits now ++ (l ++ drop (length now - bits) (drop bits now)))
           (written

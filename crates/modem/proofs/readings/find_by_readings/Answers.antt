@@ -1,7 +1,6 @@
 -- `modem::readings::find_by_readings`: the soft bytes of the readings, and the train that is found by these.
 -- Assumes nothing.
 use mathlib.Core.Path.{◌∙◌, ap}
-use Prim.Native.Nat.{◌≤◌}
 use native.Mathlib.Omega.{arith}
 use lib.ListN.{length}
 use Rattle.modes.proofs.SizeLaws.{sent_of_within}
@@ -10,21 +9,21 @@ use Rattle.modem.proofs.SoftenedLaws.{softened_length, softened_soft, front_soft
 use Rattle.modem.proofs.readings.find_by_readings.Goals as goal
 
 pub soften_train-requires : goal.soften_train-requires
-soften_train-requires c =
-    let few : c.args.sent ≤ 6912 = let fit = c.requires.legal_list.0.fit in
-    omega (arith, c.requires.legal_list.2, sent_of_within _ fit.each, fit.to_3456) in
-    record { fit_list = (c.requires.legal_list.0.fit, omega (arith, few, c.requires.legal_list.2, c.soft_room-soft.ensures)); train_in_bounds = (omega (arith, c.requires.i_len.0), omega (arith, c.requires.i_len.1)) }
+soften_train-requires c = record {
+  fit_list = (c.requires.legal_list.0.fit, grind (arith, sent_of_within));
+  train_in_bounds = (omega arith, omega arith);
+}
 
 pub slice_bounds-find-end : goal.slice_bounds-find-end
-slice_bounds-find-end c =
-    let few : c.args.sent ≤ 6912 = let fit = c.requires.legal_list.0.fit in
-    omega (arith, c.requires.legal_list.2, sent_of_within _ fit.each, fit.to_3456) in
-    omega (arith, few, c.soften_train.auto.soft, c.soft_room-soft.ensures)
+slice_bounds-find-end c = grind (arith, sent_of_within)
 
 pub find-requires : goal.find-requires
 find-requires c =
-    let front = front_softened _ _ _ _ _ _ c.requires.legal_list.2 c.soften_train.ensures in record { legal_list = (c.requires.legal_list.0, c.requires.legal_list.1); soft_len = (ap length front ∙ softened_length _ _ _, ap all_soft front ∙ softened_soft _ _ _); n_in_bounds = c.requires.n_in_bounds }
+    let front = front_softened _ _ _ _ _ _ c.requires.legal_list.2 c.soften_train.ensures in record {
+      legal_list = (c.requires.legal_list.0, c.requires.legal_list.1);
+      soft_len = (ap length front ∙ softened_length _ _ _, ap all_soft front ∙ softened_soft _ _ _);
+      n_in_bounds = c.requires.n_in_bounds;
+    }
 
 pub returns : goal.returns
-returns c =
-    rw (front_softened _ _ _ _ _ _ c.requires.legal_list.2 c.soften_train.ensures) at c.find.ensures
+returns c = rw (front_softened _ _ _ _ _ _ c.requires.legal_list.2 c.soften_train.ensures) at c.find.ensures

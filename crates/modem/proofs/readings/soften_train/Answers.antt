@@ -1,122 +1,79 @@
 -- `modem::readings::soften_train` makes soft bytes PDU by PDU.
 -- Assumes nothing.
-use mathlib.Core.Path.{◌≡◌, sym, ◌∙◌, ap}
-use Prim.Native.Nat.{ℕ, ◌*◌, ◌≤◌}
+use mathlib.Core.Path.{sym, ◌∙◌, ap}
+use Prim.Native.Nat.{ℕ}
 use native.Mathlib.Omega.{arith}
-use lib.ListN.{length}
 use Rattle.laws.specs.Lists.{filled}
-use Rattle.laws.proofs.ListLaws.{filled_none, filled_length}
-use Rattle.modes.specs.Modes.{number}
-use Rattle.modes.specs.Sizes.{carriers}
-use Rattle.modes.specs.Pdus.{carriers_of, sent_of}
-use Rattle.modes.specs.Description.{Fit, pdus_in}
-use Rattle.modes.proofs.DescriptionLaws.{pdu_at, pdus_in_length}
+use Rattle.laws.proofs.ListLaws.{filled_none}
+use Rattle.modes.specs.Description.{pdus_in}
+use Rattle.modes.proofs.DescriptionLaws.{pdus_in_length}
 use Rattle.modes.proofs.SizeLaws.{sent_within}
 use Rattle.modem.specs.Soften.{list_soft}
-use Rattle.modem.proofs.ReadLaws.{reached_none, reached_small, pdu_fit, reached_again, soften_room, soften_on, reached_all}
+use Rattle.modem.proofs.ReadLaws.{reached_none, reached_small, bits_kept, carriers_48, pdu_fit, reached_again, soften_room, soften_on, reached_all}
 use Rattle.modem.proofs.readings.soften_train.Goals as goal
 
 pub loop-k-init : goal.loop-k-init
 loop-k-init c = (reached_none _, sym (filled_none _ _))
 
 pub offset_bounds-train-k : goal.offset_bounds-train-k
-offset_bounds-train-k c =
-    let few : c.args.train.count ≤ 16 = omega (arith, c.requires.fit_list.0.to_16, pdus_in_length c.args.train) in
-    omega (arith, few)
+offset_bounds-train-k c = omega (arith, pdus_in_length)
 
 pub bounds-train-k : goal.bounds-train-k
-bounds-train-k c =
-    let few : c.args.train.count ≤ 16 = omega (arith, c.requires.fit_list.0.to_16, pdus_in_length c.args.train) in
-    omega (arith, few)
+bounds-train-k c = omega (arith, pdus_in_length)
 
 pub symbols_of-more-requires : goal.symbols_of-more-requires
-symbols_of-more-requires c =
-    let fits : Fit (number (pdu_at c.args.train c.loop-k.k).mode) (pdu_at c.args.train c.loop-k.k).n = pdu_fit _ c.requires.fit_list.0 _ _ _ c.loop-k.invariant.0 c.loop-k-test.true in
-    fits
-
-pub overflow_mul-more : goal.overflow_mul-more
-overflow_mul-more c = omega (arith, c.symbols_of-more.ensures.1)
+symbols_of-more-requires c = search pdu_fit
 
 pub offset_bounds-i-carriers : goal.offset_bounds-i-carriers
-offset_bounds-i-carriers c =
-    let small : (c.loop-k.bits ≤ 6912) × (c.loop-k.carriers ≤ 6912) × (c.loop-k.bits ≤ sent_of (pdus_in c.args.train)) × (c.loop-k.carriers ≤ carriers_of (pdus_in c.args.train)) = reached_small _ c.requires.fit_list.0 _ _ _ c.loop-k.invariant.0 in
-    omega (arith, small.1)
+offset_bounds-i-carriers c = grind (arith, reached_small)
 
 pub slice_bounds-soften-count : goal.slice_bounds-soften-count
-slice_bounds-soften-count c =
-    let small : (c.loop-k.bits ≤ 6912) × (c.loop-k.carriers ≤ 6912) × (c.loop-k.bits ≤ sent_of (pdus_in c.args.train)) × (c.loop-k.carriers ≤ carriers_of (pdus_in c.args.train)) = reached_small _ c.requires.fit_list.0 _ _ _ c.loop-k.invariant.0 in
-    omega (arith, small.3, c.requires.train_in_bounds.0)
+slice_bounds-soften-count c = grind (arith, reached_small)
 
 pub slice_bounds-soften-start : goal.slice_bounds-soften-start
-slice_bounds-soften-start c =
-    let small : (c.loop-k.bits ≤ 6912) × (c.loop-k.carriers ≤ 6912) × (c.loop-k.bits ≤ sent_of (pdus_in c.args.train)) × (c.loop-k.carriers ≤ carriers_of (pdus_in c.args.train)) = reached_small _ c.requires.fit_list.0 _ _ _ c.loop-k.invariant.0 in
-    omega (arith, small.3, c.requires.train_in_bounds.0)
+slice_bounds-soften-start c = grind (arith, reached_small)
 
 pub offset_bounds-q-carriers : goal.offset_bounds-q-carriers
-offset_bounds-q-carriers c =
-    let small : (c.loop-k.bits ≤ 6912) × (c.loop-k.carriers ≤ 6912) × (c.loop-k.bits ≤ sent_of (pdus_in c.args.train)) × (c.loop-k.carriers ≤ carriers_of (pdus_in c.args.train)) = reached_small _ c.requires.fit_list.0 _ _ _ c.loop-k.invariant.0 in
-    omega (arith, small.1)
+offset_bounds-q-carriers c = grind (arith, reached_small)
 
 pub slice_bounds-soften-count-in-loop-k : goal.slice_bounds-soften-count-in-loop-k
-slice_bounds-soften-count-in-loop-k c =
-    let small : (c.loop-k.bits ≤ 6912) × (c.loop-k.carriers ≤ 6912) × (c.loop-k.bits ≤ sent_of (pdus_in c.args.train)) × (c.loop-k.carriers ≤ carriers_of (pdus_in c.args.train)) = reached_small _ c.requires.fit_list.0 _ _ _ c.loop-k.invariant.0 in
-    omega (arith, small.3, c.requires.train_in_bounds.1)
+slice_bounds-soften-count-in-loop-k c = grind (arith, reached_small)
 
 pub slice_bounds-soften-start-in-loop-k : goal.slice_bounds-soften-start-in-loop-k
-slice_bounds-soften-start-in-loop-k c =
-    let small : (c.loop-k.bits ≤ 6912) × (c.loop-k.carriers ≤ 6912) × (c.loop-k.bits ≤ sent_of (pdus_in c.args.train)) × (c.loop-k.carriers ≤ carriers_of (pdus_in c.args.train)) = reached_small _ c.requires.fit_list.0 _ _ _ c.loop-k.invariant.0 in
-    omega (arith, small.3, c.requires.train_in_bounds.1)
+slice_bounds-soften-start-in-loop-k c = grind (arith, reached_small)
 
 pub slice_bounds-soften-count-in-loop-k-2 : goal.slice_bounds-soften-count-in-loop-k-2
-slice_bounds-soften-count-in-loop-k-2 c =
-    let small : (c.loop-k.bits ≤ 6912) × (c.loop-k.carriers ≤ 6912) × (c.loop-k.bits ≤ sent_of (pdus_in c.args.train)) × (c.loop-k.carriers ≤ carriers_of (pdus_in c.args.train)) = reached_small _ c.requires.fit_list.0 _ _ _ c.loop-k.invariant.0 in
-    let long : length c.loop-k.soft ≡ length c.args.soft.now = ap length c.loop-k.invariant.1 ∙ filled_length _ _ c.args.soft.now (omega (arith, small.2, c.requires.fit_list.1)) in
-    omega (arith, small.2, long, c.requires.fit_list.1)
+slice_bounds-soften-count-in-loop-k-2 c = grind (arith, reached_small, bits_kept)
 
 pub slice_bounds-soften-start-in-loop-k-2 : goal.slice_bounds-soften-start-in-loop-k-2
-slice_bounds-soften-start-in-loop-k-2 c =
-    let small : (c.loop-k.bits ≤ 6912) × (c.loop-k.carriers ≤ 6912) × (c.loop-k.bits ≤ sent_of (pdus_in c.args.train)) × (c.loop-k.carriers ≤ carriers_of (pdus_in c.args.train)) = reached_small _ c.requires.fit_list.0 _ _ _ c.loop-k.invariant.0 in
-    let long : length c.loop-k.soft ≡ length c.args.soft.now = ap length c.loop-k.invariant.1 ∙ filled_length _ _ c.args.soft.now (omega (arith, small.2, c.requires.fit_list.1)) in
-    omega (arith, small.2, long, c.requires.fit_list.1)
+slice_bounds-soften-start-in-loop-k-2 c = grind (arith, reached_small, bits_kept)
 
 pub soften-requires : goal.soften-requires
 soften-requires c =
-    let small : (c.loop-k.bits ≤ 6912) × (c.loop-k.carriers ≤ 6912) × (c.loop-k.bits ≤ sent_of (pdus_in c.args.train)) × (c.loop-k.carriers ≤ carriers_of (pdus_in c.args.train)) = reached_small _ c.requires.fit_list.0 _ _ _ c.loop-k.invariant.0 in
-    let long : length c.loop-k.soft ≡ length c.args.soft.now = ap length c.loop-k.invariant.1 ∙ filled_length _ _ c.args.soft.now (omega (arith, small.2, c.requires.fit_list.1)) in
-    let more : 48 * c.symbols_of-more.result ≡ carriers (number (pdu_at c.args.train c.loop-k.k).mode) (pdu_at c.args.train c.loop-k.k).n = unfold carriers in ap (λ (s : ℕ). 48 * s) c.symbols_of-more.ensures.0 in
-    soften_room _ c.requires.fit_list.0 _ _ _ c.loop-k.invariant.0 c.loop-k-test.true c.args.i.now c.args.q.now c.loop-k.soft _ more c.requires.train_in_bounds.0 c.requires.train_in_bounds.1
-    (omega (arith, long, c.requires.fit_list.1))
+    let fit = c.requires.fit_list.0 in
+    let at = c.loop-k.invariant.0 in
+    let kept = bits_kept _ fit _ _ _ at _ _ _ c.loop-k.invariant.1 c.requires.fit_list.1 in
+    soften_room _ fit _ _ _ at c.loop-k-test.true _ _ _ _ (carriers_48 _ _ _ c.symbols_of-more.ensures.0)
+    c.requires.train_in_bounds.0 c.requires.train_in_bounds.1 (omega (arith, kept))
 
 pub sent_bits-bits-requires : goal.sent_bits-bits-requires
-sent_bits-bits-requires c =
-    let fits : Fit (number (pdu_at c.args.train c.loop-k.k).mode) (pdu_at c.args.train c.loop-k.k).n = pdu_fit _ c.requires.fit_list.0 _ _ _ c.loop-k.invariant.0 c.loop-k-test.true in
-    fits
+sent_bits-bits-requires c = search pdu_fit
 
 pub overflow_add-bits : goal.overflow_add-bits
-overflow_add-bits c =
-    let small : (c.loop-k.bits ≤ 6912) × (c.loop-k.carriers ≤ 6912) × (c.loop-k.bits ≤ sent_of (pdus_in c.args.train)) × (c.loop-k.carriers ≤ carriers_of (pdus_in c.args.train)) = reached_small _ c.requires.fit_list.0 _ _ _ c.loop-k.invariant.0 in
-    let fits : Fit (number (pdu_at c.args.train c.loop-k.k).mode) (pdu_at c.args.train c.loop-k.k).n = pdu_fit _ c.requires.fit_list.0 _ _ _ c.loop-k.invariant.0 c.loop-k-test.true in
-    let fit = fits in
-    omega (arith, small.0, c.sent_bits-bits.ensures, sent_within _ _ fit, fit.to_3456)
+overflow_add-bits c = grind (arith, reached_small, pdu_fit, sent_within)
 
 pub overflow_add-carriers : goal.overflow_add-carriers
-overflow_add-carriers c =
-    let small : (c.loop-k.bits ≤ 6912) × (c.loop-k.carriers ≤ 6912) × (c.loop-k.bits ≤ sent_of (pdus_in c.args.train)) × (c.loop-k.carriers ≤ carriers_of (pdus_in c.args.train)) = reached_small _ c.requires.fit_list.0 _ _ _ c.loop-k.invariant.0 in
-    omega (arith, small.1, c.symbols_of-more.ensures.1)
-
-pub overflow_add-k : goal.overflow_add-k
-overflow_add-k c =
-    let few : c.args.train.count ≤ 16 = omega (arith, c.requires.fit_list.0.to_16, pdus_in_length c.args.train) in
-    omega (arith, few)
+overflow_add-carriers c = grind (arith, reached_small)
 
 pub loop-k-preserved : goal.loop-k-preserved
 loop-k-preserved c =
-    let more : 48 * c.symbols_of-more.result ≡ carriers (number (pdu_at c.args.train c.loop-k.k).mode) (pdu_at c.args.train c.loop-k.k).n = unfold carriers in ap (λ (s : ℕ). 48 * s) c.symbols_of-more.ensures.0 in
+    let fit = c.requires.fit_list.0 in
+    let at = c.loop-k.invariant.0 in
     let less = c.loop-k-test.true in
-    let m = more in (
-      reached_again _ c.requires.fit_list.0 _ _ _ c.loop-k.invariant.0 less _ _ c.sent_bits-bits.ensures m,
-      soften_on _ c.requires.fit_list.0 _ _ _ c.loop-k.invariant.0 less c.args.i.now c.args.q.now _ _ _ _ _ c.requires.fit_list.1 c.loop-k.invariant.1 m
-          c.sent_bits-bits.ensures c.soften.ensures,
+    let more = carriers_48 _ _ _ c.symbols_of-more.ensures.0 in
+    let bits_is = c.sent_bits-bits.ensures in (
+      reached_again _ fit _ _ _ at less _ _ bits_is more,
+      soften_on _ fit _ _ _ at less _ _ _ _ _ _ _ c.requires.fit_list.1 c.loop-k.invariant.1 more bits_is c.soften.ensures,
     )
 
 pub returns : goal.returns
