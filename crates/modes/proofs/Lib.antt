@@ -5,3 +5,4 @@ pub mod KindLaws
 pub mod TestLaws
 pub mod SizeLaws
 pub mod DescriptionLaws
+pub mod RefusalNumbers

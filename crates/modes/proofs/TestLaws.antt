@@ -1,15 +1,18 @@
 -- The tests of a count and two arrays, PDU by PDU: which answer a turn gives, and where the ladder has come to after k turns.
 -- Assumes nothing.
-use mathlib.Core.Path.{◌≡◌, sym, ◌∙◌, ap}
-use mathlib.Core.List.{List}
+use mathlib.Core.Path.{◌≡◌, refl, sym, ◌∙◌, ap}
+use mathlib.Core.Bool.{Bool, true, false}
+use mathlib.Core.List.{List, [], ◌∷◌}
 use Prim.Native.Nat.{ℕ, ◌+◌, ◌≤◌, ◌<◌}
 use native.Mathlib.Omega.{arith}
 use lib.ListN.{length, get_or, take, drop}
 use borrow.Author.Tests.{lt-ltb, le-ltb}
-use Rattle.laws.specs.Ladder.{ladder}
+use Rattle.std.proofs.lemmas.List.{length-take, get_or-take}
+use Rattle.laws.specs.Ladder.{Rung, ◌when◌, ladder}
+use Rattle.laws.proofs.LadderLaws.{ladder_passed}
 use Rattle.modes.specs.Modes.{info}
 use Rattle.modes.specs.Pdus.{Pdu, pdu_of, pdus_of, length_of}
-use Rattle.modes.specs.Refusals.{lengths, modes_tests, lengths_tests, list_tests, first_mode}
+use Rattle.modes.specs.Refusals.{mode_unknown, lengths, modes_tests, lengths_tests, list_tests, first_mode}
 use Rattle.modes.proofs.PduLaws.{pdus_of_length, pdus_of_at, sum_take, sum_all}
 use Rattle.modes.proofs.RefusalLaws.{modes_on, modes_stop, modes_end, lengths_on, lengths_stop, lengths_end, list_inside, list_some, list_passed, known_at}
 
@@ -56,14 +59,20 @@ module _ (count : ℕ) (modes lens : List ℕ) where
     at : get_or ps k none ≡ pdu_of (get_or modes k 0) (get_or lens k 0)
     at = pdus_of_at count modes lens k none h
 
-    pub mode_on : ModesTo k → 1 ≤ get_or modes k 0 → get_or modes k 0 ≤ 7 → ModesTo (k + 1)
-    mode_on so low high = modes_on ps k none (within k h) so (rw at (simp (le-ltb _ 1 low, le-ltb 7 _ high)))
+    -- what a mode's number alone is tested for
+    abbrev tested : Bool → List Rung
+    tested unknown = (1 when unknown) ∷ []
 
-    pub mode_below : ModesTo k → get_or modes k 0 < 1 → ladder (modes_tests ps) ≡ 1
-    mode_below so low = modes_stop ps k none (within k h) so (rw at (simp (lt-ltb _ 1 low)))
+    pub mode_on : ModesTo k → ladder (tested (mode_unknown (get_or modes k 0))) ≡ 0 → ModesTo (k + 1)
+    mode_on so passes = modes_on ps k none (within k h) so (rw at (ladder_passed 0 _ [] passes).0)
 
-    pub mode_above : ModesTo k → 1 ≤ get_or modes k 0 → 7 < get_or modes k 0 → ladder (modes_tests ps) ≡ 1
-    mode_above so low high = modes_stop ps k none (within k h) so (rw at (simp (le-ltb _ 1 low, lt-ltb 7 _ high)))
+    pub mode_stop : (r : ℕ) → ModesTo k → r ≡ ladder (tested (mode_unknown (get_or modes k 0))) → (r ≡ 0 → ⊥) → r ≡ ladder (modes_tests ps)
+    unfolding ladder
+    mode_stop r so e refused = go (mode_unknown (get_or modes k 0)) refl e
+      where
+        go : (b : Bool) → mode_unknown (get_or modes k 0) ≡ b → r ≡ ladder (tested b) → r ≡ ladder (modes_tests ps)
+        go true known e = e ∙ sym (modes_stop ps k none (within k h) so (rw at known))
+        go false known e = absurd (refused e)
 
     pub mode_known : ladder (modes_tests ps) ≡ 0 → (1 ≤ get_or modes k 0) × (get_or modes k 0 ≤ 7)
     mode_known zeros = rw at at (known_at ps zeros k none (within k h))
@@ -88,3 +97,15 @@ module _ (count : ℕ) (modes lens : List ℕ) where
 
   pub length_all : (k : ℕ) → count ≤ k → length_of (take k ps) ≡ length_of ps
   length_all k h = sum_all (λ p. p.length) ps k (omega (arith, pdus_of_length count modes lens))
+
+-- an entry of the part of an array that counts
+module _ (count : ℕ) (l : List ℕ) (k : ℕ) (h : k < length (take count l)) where
+  pub counted_within : k < count
+  counted_within = omega (arith, length-take count l)
+
+  pub counted_at : get_or (take count l) k 0 ≡ get_or l k 0
+  counted_at = get_or-take count l k 0 counted_within
+
+-- a turn past the last of them
+pub counted_past : (count : ℕ) (l : List ℕ) (k : ℕ) → count ≤ length l → length (take count l) ≤ k → count ≤ k
+counted_past count l k h past = omega (arith, length-take count l)

@@ -1,20 +1,15 @@
--- What has passed the tests, and what a train's description holds.
+-- What has passed the tests, and what a PDU of the source holds. What a whole train holds is in Passed.antt.
 --   Fit        a mode and a length that are not refused
 --   EachFit    every PDU of a list has such
 --   FitList    a list that is not refused
 --   LegalList  a list, a counter and a that are not refused
 --   held       a PDU of the source by its mode's number
 --   Holds      a PDU of the source holds that mode and length
---   pdus_in    the list that the struct holds
---   Describes  the struct holds that kind, list, counter and a
 -- Assumes nothing.
-use Rattle.std.specs.Prelude.{ℕ, ◌+◌, ◌%◌, ◌≤◌, ◌≡◌, List, [], ◌∷◌, length, get_or}
-use Rattle.laws.specs.Lists.{tabulate}
+use Rattle.std.specs.Prelude.{ℕ, ◌+◌, ◌%◌, ◌≤◌, ◌≡◌, List, [], ◌∷◌, length}
 use Rattle.modes.specs.declared.Constellation.TheVariants.{Bpsk}
 use Rattle.modes.specs.declared.Rate.TheVariants.{Half}
-use Rattle.modes.specs.declared.Kind.{Kind}
 use Rattle.modes.specs.declared.Pdu as source
-use Rattle.modes.specs.declared.Train.{Train}
 use Rattle.modes.specs.Modes.{constellation_of, rate_of, info, number}
 use Rattle.modes.specs.Pdus.{Pdu, pdu_of, length_of}
 
@@ -58,14 +53,3 @@ pub record Holds (mode N : ℕ) (p : source.Pdu) : Type 0 where
 -- what stands past an array's end
 abbrev pub no_pdu : source.Pdu
 no_pdu = record { mode = record { constellation = Bpsk; rate = Half }; n = 0 }
-
--- the list that the struct holds
-unfoldable pub pdus_in : Train → List Pdu
-pdus_in t = tabulate t.count (λ k. held (get_or t.pdus k no_pdu))
-
--- the struct holds that kind, list, counter and a
-pub record Describes (kind : Kind) (ps : List Pdu) (counter a : ℕ) (t : Train) : Type 0 where
-  pub kind_is : t.kind ≡ kind
-  pub list_is : pdus_in t ≡ ps
-  pub counter_is : t.counter ≡ counter
-  pub a_is : t.a ≡ a

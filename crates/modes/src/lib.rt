@@ -1,72 +1,59 @@
-// The modes of document 01 (000, table 1), the kinds of train (kinds.rt), the description of a train as a list of PDUs, its sizes
-// (list.rt), and (refusals.rt) the refusals 11, 1 to 6 and 12. The numbers of a call are tested here, in the customer's order; what has
-// passed is a Train, which holds the PDUs with their modes. Lengths of slices, and what stands in them, are tested by the calls.
+// The modes of document 01 (000, table 1), the kinds of train (kinds.rt), what a call is told of its train (description.rt), why it is
+// refused (refusal.rt) and the tests for that (refusals.rt): 11, 1 to 6 and 12, in the customer's order. What has passed is a Train (train.rt),
+// which holds the PDUs with their modes. Lengths of slices, and what stands in them, are tested by the calls.
 #![tactic(auto)]
 
+mod description;
 mod kinds;
-mod list;
-mod order;
+mod refusal;
 mod refusals;
+mod train;
 
 ghost use Rattle.std.specs.Prelude.{◌≡◌, ◌*◌, ◌≤◌, ◌/◌};
 ghost use Rattle.modes.specs.Modes.{constellation_of, rate_of, bits_of, info_of, number};
 ghost use Rattle.modes.specs.Sizes.{symbols, sent_bits};
 ghost use Rattle.modes.specs.Description.{Fit};
+ghost use Rattle.modes.specs.Passed.{ModeOf};
 
-pub use kinds::{first_scrambled, heeded_counter};
-pub use list::{counts_of, train_of};
-pub use refusals::{refusal, sized_refusal};
+pub use description::{Description, PduList};
+pub use kinds::first_scrambled;
+pub use refusal::Refusal;
+pub use train::{Counts, Train};
 
-#[derive(Clone, Copy)]
+#[derive(Clone, Copy, Debug, Default, PartialEq, Eq)]
 pub enum Constellation {
+    #[default]
     Bpsk,
     Qpsk,
     Qam16,
     Qam64,
 }
 
-#[derive(Clone, Copy)]
+#[derive(Clone, Copy, Debug, Default, PartialEq, Eq)]
 pub enum Rate {
+    #[default]
     Half,
     NineSixteenths,
     ThreeQuarters,
 }
 
 // A train of data, or the broadcast channel: one PDU of 120 bits in mode 1, of which the first four are the frame counter.
-#[derive(Clone, Copy)]
+#[derive(Clone, Copy, Debug, PartialEq, Eq)]
 pub enum Kind {
     Data,
     Bch,
 }
 
-#[derive(Clone, Copy)]
+#[derive(Clone, Copy, Debug, Default, PartialEq, Eq)]
 pub struct Mode {
     pub constellation: Constellation,
     pub rate: Rate,
 }
 
-#[derive(Clone, Copy)]
+#[derive(Clone, Copy, Debug, Default, PartialEq, Eq)]
 pub struct Pdu {
     pub mode: Mode,
     pub n: usize,
-}
-
-// What has to be known of a train besides its octets. Only the first `count` PDUs are meant.
-#[derive(Clone, Copy)]
-pub struct Train {
-    pub kind: Kind,
-    pub pdus: [Pdu; 16],
-    pub count: usize,
-    pub counter: u32,
-    pub a: usize,
-}
-
-// A train's information bits, symbols and sent bits, over all its PDUs.
-#[derive(Drop)]
-pub struct Counts {
-    pub n: usize,
-    pub symbols: usize,
-    pub sent: usize,
 }
 
 // The mode of a number. A number that is no mode's gives a pair that is no mode.
@@ -109,6 +96,20 @@ pub fn mode_of(number: u32) -> Mode
     }
 }
 
+impl TryFrom<u32> for Mode {
+    type Error = Refusal;
+
+    ghost try_from_gives = { ModeOf };
+
+    #[tactic(auto, unfolding(laws::specs::Ladder::ladder))]
+    fn try_from(number: u32) -> Result<Mode, Refusal> {
+        if number < 1 || 7 < number {
+            return Err(Refusal::Mode);
+        }
+        Ok(mode_of(number))
+    }
+}
+
 pub fn bits_per_carrier(c: Constellation) -> u32
     ensures { (result ≡ bits_of c) × (1 ≤ result) × (result ≤ 6) }
 {
@@ -133,20 +134,19 @@ fn info_per_symbol(m: Mode) -> u32
     }
 }
 
-// The symbols of a PDU of n bits.
-pub fn symbols_of(m: Mode, n: usize) -> usize
-    requires { Fit (number m) n }
-    ensures { (result ≡ symbols (number m) n) × (result ≤ 144) }
-{
-    n / (info_per_symbol(m) as usize)
-}
+impl Pdu {
+    pub fn symbols(self) -> usize
+        requires { Fit (number self.mode) self.n }
+        ensures { (result ≡ symbols (number self.mode) self.n) × (result ≤ 144) }
+    {
+        self.n / (info_per_symbol(self.mode) as usize)
+    }
 
-// The sent bits of a PDU of n bits.
-pub fn sent_bits(m: Mode, n: usize) -> usize
-    requires { Fit (number m) n }
-    ensures { result ≡ sent_bits (number m) n }
-{
-    let c = m.constellation;
-    let per_symbol = 48 * bits_per_carrier(c);
-    symbols_of(m, n) * (per_symbol as usize)
+    pub fn sent_bits(self) -> usize
+        requires { Fit (number self.mode) self.n }
+        ensures { result ≡ sent_bits (number self.mode) self.n }
+    {
+        let per_symbol = 48 * bits_per_carrier(self.mode.constellation);
+        self.symbols() * (per_symbol as usize)
+    }
 }

@@ -1,13 +1,13 @@
 // What a description is tested for before anything else: refusal 11, then 1 to 6, and then 12, in the customer's order.
-ghost use Rattle.std.specs.Prelude.{◌≡◌, List, ℕ, ◌<◌, ◌≤◌};
-ghost use Rattle.laws.specs.Ladder.{ladder};
+ghost use Rattle.std.specs.Prelude.{◌≡◌, List, ℕ, Bool, ◌<◌, ◌≤◌, [], ◌∷◌};
+ghost use Rattle.laws.specs.Ladder.{◌when◌, given, ladder};
 ghost use Rattle.modes.specs.Modes.{info};
 ghost use Rattle.modes.specs.Pdus.{pdus_of, length_of};
-ghost use Rattle.modes.specs.Refusals.{length_outside, place_above, lengths, modes_tests, lengths_tests, list_tests, list_sized, encode_described};
+ghost use Rattle.modes.specs.Refusal.{answer_of, refusal_number};
+ghost use Rattle.modes.specs.Refusals.{length_outside, place_above, lengths, modes_tests, lengths_tests, list_tests, encode_described};
 
 use crate::kinds::other_than;
-use crate::order::first_refusal;
-use crate::{Kind, info_per_symbol, mode_of};
+use crate::{Description, Mode, PduList, Refusal, info_per_symbol, mode_of};
 
 // Table 1's last column.
 fn info_of(mode: u32) -> u32
@@ -19,133 +19,109 @@ fn info_of(mode: u32) -> u32
 
 // Refusals 3, 4 and 5: what a length is tested for.
 #[tactic(auto, unfolding(laws::specs::Ladder::ladder, crate::specs::Refusals::lengths))]
-fn length_refusal(info: u32, n: u32) -> u32
+fn length_tested(info: u32, n: u32) -> Result<(), Refusal>
     requires { 0 < info }
-    ensures { result ≡ ladder (lengths info n) }
+    ensures { answer_of result ≡ ladder (lengths info n) }
 {
-    if n < 72 {
-        return 3;
-    }
-    if 3456 < n {
-        return 3;
+    if n < 72 || 3456 < n {
+        return Err(Refusal::Length);
     }
     if n % 8 != 0 {
-        return 4;
+        return Err(Refusal::Octets);
     }
     if n % info != 0 {
-        return 5;
+        return Err(Refusal::Symbols);
     }
-    0
+    Ok(())
 }
 
-// Refusal 11, and then 1 for each PDU.
-#[tactic(auto, using(crate::proofs::TestLaws::list_empty, crate::proofs::TestLaws::list_above))]
-fn list_refusal(count: u32, modes: &[u32; 16]) -> u32
-    ensures { (whatever : List ℕ) → result ≡ ladder (list_tests (pdus_of count modes.now whatever)) }
-{
-    if count < 1 {
-        return 11;
-    }
-    if 16 < count {
-        return 11;
-    }
-    let count = count as usize;
-    let mut k = 0usize;
-    while k < count {
-        let mode = modes[k];
-        if mode < 1 {
-            return 1;
+impl PduList {
+    // Refusal 11, and then 1 for each PDU.
+    #[tactic(auto, using(crate::proofs::TestLaws::list_empty, crate::proofs::TestLaws::list_above))]
+    fn modes_tested(&self) -> Result<(), Refusal>
+        ensures { (whatever : List ℕ) → answer_of result ≡ ladder (list_tests (pdus_of self.now.count self.now.modes whatever)) }
+    {
+        if self.count < 1 || 16 < self.count {
+            return Err(Refusal::List);
         }
-        if 7 < mode {
-            return 1;
+        for mode in &self.modes[..self.count as usize] {
+            Mode::try_from(*mode)?;
         }
-        k += 1;
+        Ok(())
     }
-    0
-}
 
-// Refusals 3, 4 and 5 PDU by PDU, of which the modes are known.
-fn lengths_refusal(count: usize, modes: &[u32; 16], lengths: &[u32; 16]) -> u32
-    requires { (count ≤ 16) × (ladder (modes_tests (pdus_of count modes.now lengths.now)) ≡ 0) }
-    ensures { result ≡ ladder (lengths_tests (pdus_of count modes.now lengths.now)) }
-{
-    let mut k = 0usize;
-    while k < count {
-        let refusal = length_refusal(info_of(modes[k]), lengths[k]);
-        if refusal != 0 {
-            return refusal;
+    // Refusals 3, 4 and 5 PDU by PDU, of which the modes are known.
+    fn lengths_tested(&self) -> Result<(), Refusal>
+        requires { (self.now.count ≤ 16) × (ladder (modes_tests (pdus_of self.now.count self.now.modes self.now.lengths)) ≡ 0) }
+        ensures { answer_of result ≡ ladder (lengths_tests (pdus_of self.now.count self.now.modes self.now.lengths)) }
+    {
+        for k in 0..self.count as usize {
+            length_tested(info_of(self.modes[k]), self.lengths[k])?;
         }
-        k += 1;
+        Ok(())
     }
-    0
-}
 
-fn wide(n: u32) -> usize
-    ensures { (result ≡ n) × (result ≤ 4294967295) }
-{
-    n as usize
-}
-
-// The information bits of all PDUs. No test has to come first: the sum of sixteen 32-bit numbers is one of 64 bits.
-fn total_length(count: usize, lengths: &[u32; 16]) -> usize
-    requires { count ≤ 16 }
-    ensures { (whatever : List ℕ) → result ≡ length_of (pdus_of count whatever lengths.now) }
-{
-    let mut n = 0usize;
-    let mut k = 0usize;
-    while k < count {
-        n += wide(lengths[k]);
-        k += 1;
+    // The information bits of all PDUs. No test has to come first: the sum of sixteen 32-bit numbers is one of 64 bits.
+    fn total_length(&self) -> usize
+        requires { self.now.count ≤ 16 }
+        ensures { (whatever : List ℕ) → result ≡ length_of (pdus_of self.now.count whatever self.now.lengths) }
+    {
+        let mut n = 0;
+        for length in &self.lengths[..self.count as usize] {
+            n += *length as usize;
+        }
+        n
     }
-    n
 }
 
 // Whether the sum lies outside a train's lengths.
 fn sum_outside(sum: usize) -> bool
     ensures { result ≡ length_outside sum }
 {
-    if sum < 72 {
-        return true;
-    }
-    3456 < sum
+    sum < 72 || 3456 < sum
 }
 
 // Whether P1 would begin too late.
 fn place_above(sum: usize, a: u32) -> bool
     ensures { result ≡ place_above sum a }
 {
-    if sum < 72 {
-        return 0 < a;
+    sum.saturating_sub(72) < a as usize
+}
+
+// The order of the tests once the list and its modes have passed: whether the counter is too large, each PDU's length, whether the sum
+// is outside, whether a is above, and whether the kind is described otherwise.
+#[tactic(auto, unfolding(laws::specs::Ladder::ladder))]
+fn in_order(
+    counter: bool,
+    each: Result<(), Refusal>,
+    sum: bool,
+    place: bool,
+    other: bool,
+) -> Result<(), Refusal>
+    ensures { answer_of result ≡ ladder ((2 when counter) ∷ given (answer_of each) ∷ (3 when sum) ∷ (6 when place) ∷ (12 when other) ∷ []) }
+{
+    if counter {
+        return Err(Refusal::Counter);
     }
-    sum - 72 < a as usize
+    each?;
+    if sum {
+        return Err(Refusal::Length);
+    }
+    if place {
+        return Err(Refusal::Place);
+    }
+    if other { Err(Refusal::Kind) } else { Ok(()) }
 }
 
 // What a kind, a list of PDUs, a counter and a are tested for.
-pub fn refusal(
-    kind: Kind,
-    count: u32,
-    modes: &[u32; 16],
-    lengths: &[u32; 16],
-    counter: u32,
-    a: u32,
-) -> u32
-    ensures { result ≡ ladder (encode_described kind (pdus_of count modes.now lengths.now) counter a) }
+pub(crate) fn tested(told: &Description) -> Result<(), Refusal>
+    ensures { answer_of result ≡ ladder (encode_described told.now.kind (pdus_of told.now.list.count told.now.list.modes told.now.list.lengths) told.now.counter told.now.a) }
 {
-    let list = list_refusal(count, modes);
-    if list != 0 {
-        return list;
-    }
-    let each = lengths_refusal(count as usize, modes, lengths);
-    let sum = total_length(count as usize, lengths);
-    let outside = sum_outside(sum);
-    let above = place_above(sum, a);
-    let other = other_than(kind, count, sum, modes[0], a);
-    first_refusal(15 < counter, each, outside, above, other)
-}
-
-// The same in a call that has no kind, no counter and no a. With data and 0 for these, their tests refuse nothing.
-pub fn sized_refusal(count: u32, modes: &[u32; 16], lengths: &[u32; 16]) -> u32
-    ensures { result ≡ ladder (list_sized (pdus_of count modes.now lengths.now)) }
-{
-    refusal(Kind::Data, count, modes, lengths, 0, 0)
+    let list = &told.list;
+    list.modes_tested()?;
+    let each = list.lengths_tested();
+    let sum = list.total_length();
+    let above = place_above(sum, told.a);
+    let other = other_than(told.kind, list.count, sum, list.modes[0], told.a);
+    in_order(15 < told.counter, each, sum_outside(sum), above, other)
 }

@@ -1,0 +1,79 @@
+// A train that has passed the tests: its PDUs one after the other, each with its mode and length, and what is counted over all of them.
+ghost use Rattle.std.specs.Prelude.{◌≡◌, map};
+ghost use Rattle.laws.specs.Ladder.{ladder};
+ghost use Rattle.modes.specs.Refusals.{list_described};
+ghost use Rattle.modes.specs.Description.{held};
+
+use crate::refusals::tested;
+use crate::{Description, Kind, Pdu, PduList, Refusal};
+use arrayvec::ArrayVec;
+
+#[derive(Drop)]
+pub struct Train {
+    pub kind: Kind,
+    pub pdus: ArrayVec<Pdu, 16>,
+    pub counter: u32,
+    pub a: usize,
+    pub ghost passed: { ladder (list_described (map held pdus.items) counter a) ≡ 0 },
+}
+
+// A train's information bits, symbols and sent bits, over all its PDUs.
+#[derive(Clone, Copy)]
+pub struct Counts {
+    pub n: usize,
+    pub symbols: usize,
+    pub sent: usize,
+}
+
+impl Train {
+    ghost use Rattle.modes.specs.Pdus.{length_of, symbols_of, sent_of};
+    ghost use Rattle.modes.specs.Refusal.{answer_of};
+    ghost use Rattle.modes.specs.Refusals.{encode_described, list_sized};
+    ghost use Rattle.modes.specs.Passed.{told, pdus_in, Describes};
+    ghost use Rattle.std.specs.Prelude.{IfOk};
+
+    // The train of a description, or what it is refused for.
+    pub fn described(by: &Description) -> Result<Train, Refusal>
+        ensures answer { answer_of result ≡ ladder (encode_described by.now.kind (told by.now.list) by.now.counter by.now.a) }
+        ensures done { IfOk result (Describes by.now.kind (told by.now.list) by.now.counter by.now.a) }
+    {
+        tested(by)?;
+        Ok(Train {
+            kind: by.kind,
+            pdus: by.list.pdus(),
+            counter: by.counter,
+            a: by.a as usize,
+        })
+    }
+
+    // The same in a call that has no kind, no counter and no a. With data and 0 for these, their tests refuse nothing.
+    pub fn sized(list: &PduList) -> Result<Train, Refusal>
+        ensures answer { answer_of result ≡ ladder (list_sized (told list.now)) }
+        ensures done { IfOk result (Describes Kind.Data (told list.now) 0 0) }
+    {
+        Train::described(&Description {
+            kind: Kind::Data,
+            list: *list,
+            counter: 0,
+            a: 0,
+        })
+    }
+
+    pub fn counts(&self) -> Counts
+        ensures n { result.n ≡ length_of (pdus_in self.now) }
+        ensures symbols { result.symbols ≡ symbols_of (pdus_in self.now) }
+        ensures sent { result.sent ≡ sent_of (pdus_in self.now) }
+    {
+        let mut counts = Counts {
+            n: 0,
+            symbols: 0,
+            sent: 0,
+        };
+        for pdu in self.pdus.as_slice() {
+            counts.n += pdu.n;
+            counts.symbols += pdu.symbols();
+            counts.sent += pdu.sent_bits();
+        }
+        counts
+    }
+}
