@@ -7,5 +7,4 @@ pub mod SheetLaws
 pub mod SendLaws
 pub mod SourceLaws
 pub mod CountedLaws
-pub mod SpreadLaws
 pub mod ListedLaws

@@ -1,33 +1,31 @@
--- A train PDU by PDU: what each PDU is lent, and what stands in the buffers after k of them.
+-- A train PDU by PDU: what each PDU is lent, and what stands in the buffer after k of them.
 -- Assumes nothing.
 use mathlib.Core.Path.{◌≡◌, refl, sym, ◌∙◌, ap}
 use mathlib.Core.List.{List, ◌∷◌, ◌++◌}
 use Prim.Native.Nat.{ℕ, suc, ◌+◌, ◌-◌, ◌*◌, ◌≤◌, ◌<◌}
 use native.Mathlib.Omega.{arith}
-use lib.IntN.{ℤ, pos}
 use lib.ListN.{length, get_or, take, drop}
-use lib.Seq.{split_at, get_or-drop}
+use lib.Seq.{split_at}
 use Rattle.laws.specs.Lists.{filled}
-use Rattle.laws.specs.Scatter.{Placed}
-use Rattle.laws.specs.Signed.{counted}
-use Rattle.laws.proofs.ListLaws.{part_all, filled_length, filled_part}
-use Rattle.laws.proofs.ScatterLaws.{placed_on}
+use Rattle.laws.proofs.ListLaws.{filled_length, filled_part}
 use Rattle.modes.specs.declared.Constellation.{Constellation}
 use Rattle.modes.specs.declared.Rate.{Rate}
-use Rattle.modes.specs.declared.Train.{Train}
+use Rattle.modes.specs.declared.train.Train.{Train}
 use Rattle.modes.specs.Modes.{bits_of, info_of, number, number_of}
 use Rattle.modes.specs.Sizes.{symbols, sent_bits}
 use Rattle.modes.specs.Pdus.{Pdu, pdu_of, sum_of, pdu_sent, length_of, sent_of}
-use Rattle.modes.specs.Description.{Fit, held, pdus_in}
+use Rattle.modes.specs.Description.{Fit, FitList, held}
+use Rattle.modes.specs.Passed.{pdus_in}
 use Rattle.modes.proofs.ModeLaws.{by_enums}
 use Rattle.modes.proofs.SizeLaws.{symbols_exact, sent_of_within}
 use Rattle.modes.proofs.PduLaws.{sum_most}
-use Rattle.modes.proofs.DescriptionLaws.{pdu_at, pdus_in_length, pdus_in_at, held_fit, held_sum, held_all}
+use Rattle.modes.proofs.DescriptionLaws.{pdu_at, count_in, pdus_in_length, pdus_in_at, legal, held_fit, held_sum, held_all}
 use Rattle.places.specs.Selection.{origin}
 use Rattle.places.specs.Puncture.{p1}
 use Rattle.places.specs.Trains.{pdu, pdus, listed}
-use Rattle.places.specs.Sending.{symbol_bits, origin_of, pdu_bit, PduRoom, Spread, train_bit, TrainRoom}
+use Rattle.places.specs.Sending.{symbol_bits, origin_of, PduRoom}
 use Rattle.places.proofs.TrainLaws.{takes_listed, origin_share}
+use Rattle.places.proofs.SelectionLaws.{Takes, origin_place}
 use Rattle.places.proofs.SourceLaws.{origin_once, pdu_sources, pdu_enums}
 
 -- the sent bits, and the information bits, of a PDU by its two enums
@@ -41,29 +39,30 @@ module _ (c : Constellation) (rate : Rate) (N : ℕ) (fit : Fit (number_of c rat
 
 -- where PDU k begins: in P1's output, and among the sent bits
 pub record Begins (t : Train) (k first at : ℕ) : Type 0 where
-  pub within : k ≤ t.count
   pub first_is : first ≡ 2 * length_of (take k (pdus_in t))
   pub at_is : at ≡ sent_of (take k (pdus_in t))
 
 pub begins_none : (t : Train) → Begins t 0 0 0
 unfolding sum_of
-begins_none t = record { within = omega arith; first_is = refl; at_is = refl }
+begins_none t = record { first_is = refl; at_is = refl }
 
-module _ (t : Train) (coded sent : ℕ) (room : TrainRoom (pdus_in t) t.a coded sent) (k first at : ℕ) (b : Begins t k first at) where
+module _ (t : Train) (k first at : ℕ) (b : Begins t k first at) where
   abbrev ps : List Pdu
   ps = pdus_in t
+
+  fit : FitList (pdus_in t)
+  fit = (legal t).fit
 
   -- no more than the whole train
   pub begins_small : (first ≤ 6912) × (at ≤ 6912) × (at ≤ sent_of (pdus_in t))
   begins_small =
-      let fit = room.fit in
       let few = sum_most pdu_sent ps k in (
         omega (arith, b.first_is, sum_most (λ p. p.length) ps k, fit.to_3456),
         omega (arith, b.at_is, few, sent_of_within ps fit.each, fit.to_3456),
         omega (arith, b.at_is, few),
       )
 
-  module _ (h : k < t.count) where
+  module _ (h : k < count_in t) where
     abbrev c : Constellation
     c = (pdu_at t k).mode.constellation
 
@@ -74,12 +73,11 @@ module _ (t : Train) (coded sent : ℕ) (room : TrainRoom (pdus_in t) t.a coded 
     N = (pdu_at t k).n
 
     pub pdu_fit : Fit (number (pdu_at t k).mode) (pdu_at t k).n
-    pdu_fit = held_fit t k h room.fit.each
+    pdu_fit = held_fit t k h
 
     -- the next PDU begins behind this one
     pub begins_again : (n : ℕ) → n ≡ sent_bits (number (pdu_at t k).mode) (pdu_at t k).n → Begins t (k + 1) (first + 2 * (pdu_at t k).n) (at + n)
     begins_again n e = record {
-      within = omega arith;
       first_is = omega (arith, b.first_is, held_sum t k h (λ p. p.length));
       at_is = omega (arith, b.at_is, e, held_sum t k h pdu_sent);
     }
@@ -91,18 +89,18 @@ module _ (t : Train) (coded sent : ℕ) (room : TrainRoom (pdus_in t) t.a coded 
     share_inside : first + 2 * N ≤ 2 * length_of ps
     share_inside = omega (arith, b.first_is, held_sum t k h (λ p. p.length), sum_most (λ p. p.length) ps (k + 1))
 
-    pub pdu_room : (s lent : ℕ) → s ≡ symbols (number (pdu_at t k).mode) (pdu_at t k).n → lent + at ≡ sent
-        → PduRoom (bits_of (pdu_at t k).mode.constellation) (pdu_at t k).mode.rate s t.a first coded lent
-    pdu_room s lent es el =
+    pub pdu_room : (room : ℕ) → room + at ≡ 6912
+        → PduRoom (bits_of (pdu_at t k).mode.constellation) (pdu_at t k).mode.rate (symbols (number (pdu_at t k).mode) (pdu_at t k).n) t.a first room
+    pdu_room room er =
         let all = sent_by_enums c rate N pdu_fit in
         let whole = info_by_enums c rate N pdu_fit in
-        let fit = room.fit in
-        rw es (record {
-          place = omega (arith, room.inside, fit.to_3456);
-          few = omega (arith, all, sent_inside, sent_of_within ps fit.each, fit.to_3456);
-          room = omega (arith, all, sent_inside, room.room);
-          sources = pdu_sources c rate t.a first (symbols (number_of c rate) N) (length_of ps) coded (omega (arith, whole, share_inside)) fit.to_3456 room.inside room.all_coded;
-        })
+        let most = sent_of_within ps fit.each in
+        record {
+          place = omega (arith, (legal t).inside, fit.to_3456);
+          few = omega (arith, all, sent_inside, most, fit.to_3456);
+          room = omega (arith, all, sent_inside, most, fit.to_3456);
+          sources = pdu_sources c rate t.a first (symbols (number_of c rate) N) (length_of ps) 6924 (omega (arith, whole, share_inside)) fit.to_3456 (legal t).inside (omega (arith, fit.to_3456));
+        }
 
     -- its sent bit q is the train's sent bit at + q
     share_origin : (q : ℕ) → q < sent_bits (number_of c rate) N → origin_of (bits_of c) rate t.a first q ≡ origin (listed ps t.a) (at + q)
@@ -119,43 +117,42 @@ module _ (t : Train) (coded sent : ℕ) (room : TrainRoom (pdus_in t) t.a coded 
         ap (origin (p1 t.a))
         (rw (pdu_enums c rate pdu_fit.from_1 pdu_fit.to_7, b.first_is, b.at_is) (sym share))
 
-    -- the PDU's sent bits at the front of what is left of the buffer
-    pub sent_on : (bits sent₀ now part : List ℕ) (s n : ℕ) → length bits ≡ coded → length sent₀ ≡ sent
-        → now ≡ filled at (train_bit (pdus_in t) t.a bits) sent₀
-        → s ≡ symbols (number (pdu_at t k).mode) (pdu_at t k).n → n ≡ sent_bits (number (pdu_at t k).mode) (pdu_at t k).n
+    -- the PDU's origins at the front of what is left of the buffer
+    pub put_on : (l₀ l part : List ℕ) (n : ℕ) → length l₀ ≡ 6912
+        → l ≡ filled at (origin (listed (pdus_in t) t.a)) l₀
+        → n ≡ sent_bits (number (pdu_at t k).mode) (pdu_at t k).n
         → part
-        ≡ filled (symbol_bits (bits_of (pdu_at t k).mode.constellation) s) (pdu_bit (bits_of (pdu_at t k).mode.constellation) (pdu_at t k).mode.rate t.a first bits)
-        (take (length now - at) (drop at now))
-        → take at now ++ (part ++ drop (length now - at) (drop at now)) ≡ filled (at + n) (train_bit (pdus_in t) t.a bits) sent₀
-    unfolding pdu_bit train_bit
-    sent_on bits sent₀ now part s n eb long is es en written =
-        let count : symbol_bits (bits_of c) s ≡ n = ap (symbol_bits (bits_of c)) es ∙ sent_by_enums c rate N pdu_fit ∙ sym en in
-        let lent : length now ≡ length sent₀ = ap length is ∙ filled_length at _ sent₀ (omega (arith, begins_small.2, room.room)) in
-        ap (λ (l : List ℕ). take at now ++ (l ++ drop (length now - at) (drop at now)))
-        (written ∙ ap (λ (m : ℕ). filled m (pdu_bit (bits_of c) rate t.a first bits) (take (length now - at) (drop at now))) count)
-        ∙ filled_part at n (length now - at) (train_bit ps t.a bits) (pdu_bit (bits_of c) rate t.a first bits) sent₀ now is
-        (omega (arith, lent, en, sent_inside, room.room)) (omega (arith, en, sent_inside, room.room))
-        (λ j h. ap (λ (m : ℕ). get_or bits m 0) (share_origin j (rw en at h)))
-
-    -- the PDU's soft bytes, from the front of what is left of them
-    pub spread_on : (soft : List ℤ) (heard₀ now next : List ℕ) (s n : ℕ)
-        → Placed (origin (listed (pdus_in t) t.a)) (λ q. counted 128 (get_or soft q (pos 0))) at heard₀ now
-        → s ≡ symbols (number (pdu_at t k).mode) (pdu_at t k).n → n ≡ sent_bits (number (pdu_at t k).mode) (pdu_at t k).n
-        → Spread (bits_of (pdu_at t k).mode.constellation) (pdu_at t k).mode.rate t.a first (symbol_bits (bits_of (pdu_at t k).mode.constellation) s) (take (length soft - at) (drop at soft)) now next
-        → Placed (origin (listed (pdus_in t) t.a)) (λ q. counted 128 (get_or soft q (pos 0))) (at + n) heard₀ next
-    unfolding Spread
-    spread_on soft heard₀ now next s n so es en spread =
-        let count : symbol_bits (bits_of c) s ≡ n = ap (symbol_bits (bits_of c)) es ∙ sent_by_enums c rate N pdu_fit ∙ sym en in
-        let takes = takes_listed ps t.a room.fit.each room.inside in
-        placed_on _ _ at heard₀ now so _ _ n next (rw count at spread)
-        (λ j h. (
-          share_origin j (rw en at h),
-          ap (λ (l : List ℤ). counted 128 (get_or l j (pos 0))) (part_all at soft) ∙ ap (counted 128) (get_or-drop at soft j (pos 0)),
-        ))
-        (λ i j less h same.
-        let once : i ≡ j = origin_once (listed ps t.a) _ _ takes i j (omega (arith, en, sent_inside)) (omega (arith, en, sent_inside)) same in
-        omega arith)
+        ≡ filled (symbol_bits (bits_of (pdu_at t k).mode.constellation) (symbols (number (pdu_at t k).mode) (pdu_at t k).n))
+        (origin_of (bits_of (pdu_at t k).mode.constellation) (pdu_at t k).mode.rate t.a first)
+        (take (6912 - at) (drop at l))
+        → take at l ++ (part ++ drop (6912 - at) (drop at l)) ≡ filled (at + n) (origin (listed (pdus_in t) t.a)) l₀
+    put_on l₀ l part n long is en written =
+        let count = sent_by_enums c rate N pdu_fit ∙ sym en in
+        let small = begins_small in
+        let most = sent_of_within ps fit.each in
+        let lent : length l ≡ length l₀ = ap length is ∙ filled_length at _ l₀ (omega (arith, small.1)) in
+        ap (λ (x : List ℕ). take at l ++ (x ++ drop (6912 - at) (drop at l)))
+        (written ∙ ap (λ (m : ℕ). filled m (origin_of (bits_of c) rate t.a first) (take (6912 - at) (drop at l))) count)
+        ∙ filled_part at n (6912 - at) (origin (listed ps t.a)) (origin_of (bits_of c) rate t.a first) l₀ l is
+        (omega (arith, lent, en, sent_inside, most, fit.to_3456)) (omega (arith, en, sent_inside, most, fit.to_3456))
+        (λ j h. share_origin j (rw en at h))
 
 -- past the last PDU all sent bits have been passed
-pub begins_all : (t : Train) (k first at : ℕ) → Begins t k first at → t.count ≤ k → at ≡ sent_of (pdus_in t)
+pub begins_all : (t : Train) (k first at : ℕ) → Begins t k first at → count_in t ≤ k → at ≡ sent_of (pdus_in t)
 begins_all t k first at b h = b.at_is ∙ held_all t pdu_sent k h
+
+-- a train's sent bits, and their origins
+module _ (t : Train) where
+  takes : Takes (listed (pdus_in t) t.a) (2 * (length_of (pdus_in t) + 6)) (sent_of (pdus_in t))
+  takes = takes_listed (pdus_in t) t.a (legal t).fit.each (legal t).inside
+
+  pub train_few : sent_of (pdus_in t) ≤ 6912
+  train_few = omega (arith, sent_of_within (pdus_in t) (legal t).fit.each, (legal t).fit.to_3456)
+
+  -- they are coded bits
+  pub train_coded : (q : ℕ) → q < sent_of (pdus_in t) → origin (listed (pdus_in t) t.a) q < 2 * (length_of (pdus_in t) + 6)
+  train_coded q h = let (inside, _) = origin_place (listed (pdus_in t) t.a) takes q h in inside
+
+  -- and no two are the same
+  pub train_apart : (p q : ℕ) → p < q → q < sent_of (pdus_in t) → origin (listed (pdus_in t) t.a) p ≡ origin (listed (pdus_in t) t.a) q → ⊥
+  train_apart p q less h same = let once : p ≡ q = origin_once (listed (pdus_in t) t.a) _ _ takes p q (omega arith) h same in omega arith

@@ -26,6 +26,7 @@ fn block_of(c: Constellation) -> usize
     }
 }
 
+// An array of its own function keeps its elements out of the proof of its user.
 fn no_places() -> [u16; 288]
     ensures { (result ≡ no_places) × (length result ≡ 288) }
 {
@@ -41,10 +42,8 @@ pub fn symbol_places(c: Constellation) -> [u16; 288]
     let block = block_of(c);
     let size = 48 * modes::bits_per_carrier(c) as usize;
     let mut places = no_places();
-    let mut k = 0usize;
-    while k < size {
+    for k in 0..size {
         places[k] = sheet[block + k];
-        k += 1;
     }
     places
 }

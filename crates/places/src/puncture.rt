@@ -65,10 +65,20 @@ fn p2_origin(rate: Rate, q: usize) -> usize
     }
 }
 
-// The coded bit that P1 and then the PDU's P2 put out at q.
-pub fn source(rate: Rate, a: usize, first: usize, q: usize) -> usize
-    requires { (a ≤ 3456) × (q < 6912) × (first + origin (p2 rate) q < 6912) }
-    ensures { result ≡ source_of rate a first q }
-{
-    p1_origin(a, first + p2_origin(rate, q))
+// P1, and then the P2 of a PDU whose share of P1's output begins at `first`.
+#[derive(Clone, Copy)]
+pub(crate) struct Punctured {
+    pub(crate) rate: Rate,
+    pub(crate) a: usize,
+    pub(crate) first: usize,
+}
+
+impl Punctured {
+    // The coded bit that is put out at q.
+    pub(crate) fn source(self, q: usize) -> usize
+        requires { (self.a ≤ 3456) × (q < 6912) × (self.first + origin (p2 self.rate) q < 6912) }
+        ensures { result ≡ source_of self.rate self.a self.first q }
+    {
+        p1_origin(self.a, self.first + p2_origin(self.rate, q))
+    }
 }

@@ -1,8 +1,8 @@
--- `places::puncture::source` goes back through P2 and then P1.
+-- `places::puncture::Punctured::source` goes back through P2 and then P1.
 -- Assumes nothing.
 use mathlib.Core.Path.{refl}
 use Rattle.places.specs.Sending.{source_of}
-use Rattle.places.proofs.puncture.source.Goals as goal
+use Rattle.places.proofs.puncture.Punctured.source.Goals as goal
 
 pub returns : goal.returns
 unfolding source_of

@@ -1,7 +1,7 @@
--- `places::spread::counted_from` counts a soft byte from -128.
+-- `places::counted_from` counts a soft byte from -128.
 -- Assumes nothing.
 use Rattle.places.proofs.CountedLaws.{widened, moved_fits, counted_fits, counted_right}
-use Rattle.places.proofs.spread.counted_from.Goals as goal
+use Rattle.places.proofs.counted_from.Goals as goal
 
 pub overflow_cast-result : goal.overflow_cast-result
 overflow_cast-result c = widened c.args.soft c.ranges.soft.sfits
