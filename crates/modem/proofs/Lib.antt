@@ -1,6 +1,5 @@
 pub mod LentLaws
 pub mod SizeLaws
-pub mod ToldLaws
 pub mod EnteringLaws
 pub mod PassedLaws
 pub mod SendLaws

@@ -1,14 +1,19 @@
 -- `mapped` test by test: which answer each test gives, and the point with it.
 -- Assumes nothing.
 use mathlib.Core.Path.{◌≡◌, refl, sym, ◌∙◌, ap}
+use mathlib.Core.List.{[], ◌∷◌}
+use lib.Dec.{leb}
 use Prim.Native.Nat.{ℕ, ◌*◌, ◌%◌, ◌^◌, ◌≤◌, ◌<◌}
 use lib.Ieee.{Float}
-use borrow.Author.Tests.{lt-ltb, le-ltb, le-leb, lt-leb}
-use Rattle.laws.specs.Ladder.{ladder}
+use borrow.Author.Tests.{le-ltb, le-leb, lt-leb}
+use Rattle.laws.specs.Ladder.{◌when◌, ladder}
+use Rattle.laws.proofs.LadderLaws.{ladder_passed, ladder_stops}
 use Rattle.modes.specs.declared.Constellation.{Constellation}
 use Rattle.modes.specs.declared.Constellation.TheVariants.{Bpsk, Qpsk, Qam16, Qam64}
 use Rattle.modes.specs.Modes.{constellation_of, bits, bits_of}
+use Rattle.modes.specs.Refusals.{mode_unknown}
 use Rattle.modes.proofs.ModeLaws.{columns}
+use Rattle.modes.proofs.RefusalLaws.{within}
 use Rattle.points.specs.Levels.{level_i, level_q}
 use Rattle.points.specs.Points.{part}
 use Rattle.modem.specs.Point.{plus_zero, mapped_refusal, MapsTo}
@@ -31,13 +36,15 @@ unfolding MapsTo
 refused_as mode group k r i q e h (er, ei, eq) =
     record { answer = er ∙ sym e; done = λ z. absurd (h (sym er ∙ z)); refused = λ _ t. (ei t, eq t) }
 
-pub refusal_below_1 : (mode group : ℕ) → mode < 1 → mapped_refusal mode group ≡ 1
-unfolding mapped_refusal ladder
-refusal_below_1 mode group h = simp (lt-ltb _ _ h)
+-- a number that is no mode's is refused first
+pub refusal_mode : (mode group r : ℕ) → r ≡ ladder ((1 when mode_unknown mode) ∷ []) → (r ≡ 0 → ⊥) → mapped_refusal mode group ≡ r
+unfolding mapped_refusal
+refusal_mode mode group r e h =
+    ladder_stops ((1 when mode_unknown mode) ∷ []) ((9 when leb (2 ^ bits mode) group) ∷ []) (λ z. h (e ∙ z)) ∙ sym e
 
-pub refusal_above_7 : (mode group : ℕ) → 1 ≤ mode → 7 < mode → mapped_refusal mode group ≡ 1
-unfolding mapped_refusal ladder
-refusal_above_7 mode group low h = simp (le-ltb _ _ low, lt-ltb _ _ h)
+-- and where it is not refused it is a mode's
+pub mode_known : (mode : ℕ) → 0 ≡ ladder ((1 when mode_unknown mode) ∷ []) → (1 ≤ mode) × (mode ≤ 7)
+mode_known mode e = within 1 7 mode (ladder_passed 0 _ [] (sym e)).0
 
 pub refusal_9 : (mode group : ℕ) → 1 ≤ mode → mode ≤ 7 → 2 ^ bits mode ≤ group → mapped_refusal mode group ≡ 9
 unfolding mapped_refusal ladder

@@ -11,15 +11,16 @@ use lib.Seq.{split_at}
 use Rattle.laws.specs.Lists.{filled}
 use Rattle.laws.proofs.ListLaws.{part_all, filled_length, filled_part}
 use Rattle.modes.specs.declared.Constellation.{Constellation}
-use Rattle.modes.specs.declared.Train.{Train}
+use Rattle.modes.specs.declared.train.Train.{Train}
 use Rattle.modes.specs.Modes.{constellation_of, bits_of, number}
 use Rattle.modes.specs.Sizes.{symbols, carriers, sent_bits}
 use Rattle.modes.specs.Pdus.{Pdu, pdu_of, sum_of, pdu_carriers, pdu_sent, carriers_of, sent_of, share_of}
-use Rattle.modes.specs.Description.{Fit, FitList, held, pdus_in}
+use Rattle.modes.specs.Description.{Fit, FitList, held}
+use Rattle.modes.specs.Passed.{pdus_in}
 use Rattle.modes.proofs.ModeLaws.{enums_back}
 use Rattle.modes.proofs.SizeLaws.{symbols_of_within, sent_of_within}
 use Rattle.modes.proofs.PduLaws.{sum_most, share, share_at}
-use Rattle.modes.proofs.DescriptionLaws.{pdu_at, pdus_in_length, pdus_in_at, held_fit, held_sum, held_all}
+use Rattle.modes.proofs.DescriptionLaws.{pdu_at, count_in, legal, pdus_in_length, pdus_in_at, held_fit, held_sum, held_all}
 use Rattle.points.specs.Points.{Room}
 use Rattle.soft.specs.Soft.{rounded}
 use Rattle.soft.specs.Carriers.{exact_at, soft_at, Readings}
@@ -46,15 +47,17 @@ fewer_room c n m sent i q room h = record {
 
 -- where PDU k begins: among the sent bits, and among the carriers
 pub record Reached (t : Train) (k bits carriers : ℕ) : Type 0 where
-  pub within : k ≤ t.count
   pub bits_is : bits ≡ sent_of (take k (pdus_in t))
   pub carriers_is : carriers ≡ carriers_of (take k (pdus_in t))
 
 pub reached_none : (t : Train) → Reached t 0 0 0
 unfolding sum_of
-reached_none t = record { within = omega arith; bits_is = refl; carriers_is = refl }
+reached_none t = record { bits_is = refl; carriers_is = refl }
 
-module _ (t : Train) (fit : FitList (pdus_in t)) (k bits count : ℕ) (r : Reached t k bits count) where
+module _ (t : Train) (k bits count : ℕ) (r : Reached t k bits count) where
+  fit : FitList (pdus_in t)
+  fit = (legal t).fit
+
   abbrev ps : List Pdu
   ps = pdus_in t
 
@@ -78,7 +81,7 @@ module _ (t : Train) (fit : FitList (pdus_in t)) (k bits count : ℕ) (r : Reach
   pub carriers_kept : (f : ℕ → ℤ) (old now : List ℤ) → now ≡ filled count f old → carriers_of (pdus_in t) ≤ length old → length now ≡ length old
   carriers_kept f old now is room = ap length is ∙ filled_length count f old (omega (arith, reached_small.3))
 
-  module _ (h : k < t.count) where
+  module _ (h : k < count_in t) where
     abbrev N : ℕ
     N = (pdu_at t k).n
 
@@ -89,7 +92,7 @@ module _ (t : Train) (fit : FitList (pdus_in t)) (k bits count : ℕ) (r : Reach
     c = (pdu_at t k).mode.constellation
 
     pub pdu_fit : Fit (number (pdu_at t k).mode) (pdu_at t k).n
-    pdu_fit = held_fit t k h fit.each
+    pdu_fit = held_fit t k h
 
     same_constellation : constellation_of mode ≡ c
     same_constellation = (enums_back (pdu_at t k).mode.constellation (pdu_at t k).mode.rate pdu_fit.from_1).0
@@ -107,7 +110,6 @@ module _ (t : Train) (fit : FitList (pdus_in t)) (k bits count : ℕ) (r : Reach
     pub reached_again : (n m : ℕ) → n ≡ sent_bits (number (pdu_at t k).mode) (pdu_at t k).n → m ≡ carriers (number (pdu_at t k).mode) (pdu_at t k).n
         → Reached t (k + 1) (bits + n) (count + m)
     reached_again n m en em = record {
-      within = omega arith;
       bits_is = omega (arith, r.bits_is, en, held_sum t k h pdu_sent);
       carriers_is = omega (arith, r.carriers_is, em, held_sum t k h pdu_carriers);
     }
@@ -189,5 +191,5 @@ module _ (t : Train) (fit : FitList (pdus_in t)) (k bits count : ℕ) (r : Reach
           (omega (arith, lent, en, bits_inside)) (omega (arith, en, bits_inside)) (λ j less. soft_own j (rw en at less))
 
 -- past the last PDU all has been passed
-pub reached_all : (t : Train) (k bits count : ℕ) → Reached t k bits count → t.count ≤ k → (bits ≡ sent_of (pdus_in t)) × (count ≡ carriers_of (pdus_in t))
+pub reached_all : (t : Train) (k bits count : ℕ) → Reached t k bits count → count_in t ≤ k → (bits ≡ sent_of (pdus_in t)) × (count ≡ carriers_of (pdus_in t))
 reached_all t k bits count r h = (r.bits_is ∙ held_all t pdu_sent k h, r.carriers_is ∙ held_all t pdu_carriers k h)

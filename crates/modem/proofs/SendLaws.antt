@@ -1,9 +1,9 @@
--- What sending a train rests on: there is room for its coded bits, and each sent bit has its coded bit.
+-- What sending a train rests on: each sent bit has its coded bit.
 -- Assumes nothing.
 use mathlib.Core.Path.{◌≡◌, ◌∙◌}
 use mathlib.Core.Bool.{false}
 use mathlib.Core.List.{List}
-use Prim.Native.Nat.{ℕ, ◌+◌, ◌*◌, ◌≤◌}
+use Prim.Native.Nat.{ℕ, ◌+◌, ◌*◌}
 use Rattle.laws.specs.Lists.{filled}
 use Rattle.laws.proofs.ListLaws.{filled_at, filled_same}
 use Rattle.modes.specs.declared.Kind.{Kind}
@@ -11,7 +11,7 @@ use Rattle.modes.specs.Kinds.{first_scrambled}
 use Rattle.modes.specs.Pdus.{Pdu, length_of, sent_of}
 use Rattle.modes.specs.Description.{LegalList}
 use Rattle.places.specs.Trains.{listed}
-use Rattle.places.specs.Sending.{train_bit, TrainRoom}
+use Rattle.places.specs.Sending.{train_bit}
 use Rattle.places.proofs.SelectionLaws.{origin_place}
 use Rattle.places.proofs.TrainLaws.{takes_listed}
 use Rattle.coder.specs.Train.{coded_bit}
@@ -21,9 +21,6 @@ use Rattle.modem.specs.Encode.{sent_bit}
 use Rattle.modem.proofs.EnteringLaws.{own_counter}
 
 module _ (ps : List Pdu) (counter a : ℕ) (legal : LegalList ps counter a) where
-  pub train_room : (coded sent : ℕ) → 2 * (length_of ps + 6) ≤ coded → sent_of ps ≤ sent → TrainRoom ps a coded sent
-  train_room coded sent all_coded room = record { fit = legal.fit; inside = legal.inside; all_coded = all_coded; room = room }
-
   -- the buffer that holds the sent bits read from the coded bits holds those of the octets
   pub train_sent : (kind : Kind) (octets coded room sent sent' : List ℕ) (n first : ℕ) → n ≡ length_of ps → first ≡ first_scrambled kind
       → counter_other kind counter octets ≡ false

@@ -3,8 +3,7 @@
 use mathlib.Core.Path.{◌≡◌, ◌∙◌, ap₂}
 use mathlib.Core.Bool.{true}
 use mathlib.Core.List.{List}
-use Prim.Native.Nat.{ℕ, ◌-◌}
-use native.Mathlib.Nat.{sub-zero}
+use Prim.Native.Nat.{ℕ}
 use lib.IntN.{ℤ}
 use lib.ListN.{length, take}
 use Rattle.laws.specs.Lists.{filled}
@@ -24,6 +23,6 @@ module _ (ps : List Pdu) (i q : List ℤ) where
   softened_soft = all_soft_lem (sent_of ps) (list_soft ps i q) (λ p. soft_range _ _ _ _)
 
   -- they stand at the front of a longer buffer
-  pub front_softened : (soft soft' : List ℤ) (n : ℕ) → n ≡ sent_of ps → soft' ≡ filled (sent_of ps) (list_soft ps i q) soft → take (n - 0) soft' ≡ softened ps i q
+  pub front_softened : (soft soft' : List ℤ) (n : ℕ) → n ≡ sent_of ps → soft' ≡ filled (sent_of ps) (list_soft ps i q) soft → take n soft' ≡ softened ps i q
   unfolding softened
-  front_softened soft soft' n en e = ap₂ take (sub-zero n ∙ en) e ∙ filled_take (sent_of ps) (list_soft ps i q) soft
+  front_softened soft soft' n en e = ap₂ take en e ∙ filled_take (sent_of ps) (list_soft ps i q) soft

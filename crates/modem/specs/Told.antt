@@ -1,13 +1,42 @@
--- What the functions that put an answer together promise.
---   Tells  the fields of an answer, one by one
+-- What a call tells, as the promises speak of it.
+--   reported          an answer, with what is left in the lent buffers
+--   outcome_of        the outcome of a decode: that of its answer, or nothing where it is refused
+--   point_i, point_q  the two parts of a mapped point, +0 where the call is refused
+--   Picked            the outcome of a search over the coded bits heard of a train
 -- Assumes nothing.
-use Rattle.std.specs.Prelude.{◌≡◌, Bool, ℕ}
+use Rattle.std.specs.Prelude.{ℕ, List, Float, Result, Ok, Err}
+use Rattle.modes.specs.declared.refusal.Refusal.{Refusal}
+use Rattle.modes.specs.declared.train.Train.{Train}
+use Rattle.modes.specs.Pdus.{length_of, symbols_of, sent_of}
+use Rattle.modes.specs.Passed.{pdus_in}
+use Rattle.points.specs.declared.Point.{Point}
+use Rattle.trellis.specs.Heard.{train_cost, differing}
+use Rattle.search.specs.Bytes.{cost_of, heard_of}
+use Rattle.modem.specs.declared.decode.Answer.{Answer}
+use Rattle.modem.specs.Point.{plus_zero}
+use Rattle.modem.specs.Decode.{Outcome, outcome, nothing, train_of, Decoded}
 
--- what a call tells: the refusal k, s symbols, n sent bits, the cost c, the mark m and p comparisons
-pub record Tells (k s n c : ℕ) (m : Bool) (p : ℕ) (refusal symbols sent cost : ℕ) (confirmed : Bool) (comparisons : ℕ) : Type 0 where
-  pub refusal_is : refusal ≡ k
-  pub symbols_is : symbols ≡ s
-  pub sent_is : sent ≡ n
-  pub cost_is : cost ≡ c
-  pub mark_is : confirmed ≡ m
-  pub compared_is : comparisons ≡ p
+-- an answer, with what is left in the lent buffers
+abbrev pub reported : Answer → (octets words : List ℕ) → Outcome
+reported a octets words = outcome a.symbols a.n a.cost a.confirmed a.comparisons octets words
+
+-- the outcome of a decode
+abbrev pub outcome_of : Result Answer Refusal → (octets words : List ℕ) → Outcome
+outcome_of (Ok a) octets words = reported a octets words
+outcome_of (Err _) octets words = nothing octets words
+
+-- a mapped point on I
+abbrev pub point_i : Result Point Refusal → Float
+point_i (Ok p) = p.i
+point_i (Err _) = plus_zero
+
+-- and on Q
+abbrev pub point_q : Result Point Refusal → Float
+point_q (Ok p) = p.q
+point_q (Err _) = plus_zero
+
+-- of all trains the one of least cost by the coded bits heard, with its symbols and sent bits
+abbrev pub Picked : Train → (heard octets words : List ℕ) → Outcome → Type 0
+Picked t heard octets words =
+    Decoded (train_of t.kind t.counter (length_of (pdus_in t))) (length_of (pdus_in t)) (symbols_of (pdus_in t)) (sent_of (pdus_in t))
+    (train_cost (cost_of heard) (length_of (pdus_in t))) (differing (heard_of heard) (length_of (pdus_in t))) octets words

@@ -1,54 +1,43 @@
-// THE PUBLIC CALLS. Each tests what it is given, answers bad input with its refusal number, in the customer's order, and then leaves
-// every lent buffer as it was. None has a `requires`; the promise of each is one definition of specs/. A train is described by its
-// kind; by the count of its PDUs and their modes and lengths, in arrays of which the entries past the count are not read; by its frame
-// counter; and by a, where P1 begins. The far end is in decode.rt and readings.rt.
+// THE PUBLIC CALLS. Each tests what it is given, answers bad input with its refusal, in the customer's order, and then leaves every lent
+// buffer as it was. None has a `requires`; the promise of each is one definition of specs/, which speaks of the refusal's number. A train is
+// described by its kind; by the count of its PDUs and their modes and lengths, in arrays of which the entries past the count are not read;
+// by its frame counter; and by a, where P1 begins. The far end is in decode.rt and readings.rt.
 #![tactic(auto)]
 
 mod decode;
+mod lent;
 mod readings;
 
-ghost use Rattle.std.specs.Prelude.{◌≡◌, false, ◌||◌, ◌≤◌, ltb, length, replicate};
+ghost use Rattle.std.specs.Prelude.{◌≡◌, false, ◌≤◌, length};
 ghost use Rattle.laws.specs.Lists.{filled};
 ghost use Rattle.modes.specs.Sizes.{octets_of};
-ghost use Rattle.modes.specs.Pdus.{pdus_of, length_of, carriers_of, sent_of};
-ghost use Rattle.modes.specs.Description.{LegalList, FitList, pdus_in};
+ghost use Rattle.modes.specs.Pdus.{length_of, carriers_of, sent_of};
+ghost use Rattle.modes.specs.Refusal.{answer_of};
+ghost use Rattle.modes.specs.Passed.{told, pdus_in};
 ghost use Rattle.modem.specs.Entering.{counter_other};
 ghost use Rattle.modem.specs.Encode.{sent_bit, Encode};
 ghost use Rattle.modem.specs.Ideal.{list_i, list_q, Ideal};
-ghost use Rattle.modem.specs.Point.{plus_zero, MapsTo};
+ghost use Rattle.modem.specs.Point.{MapsTo};
+ghost use Rattle.modem.specs.Told.{point_i, point_q};
 
-use decode::lent_refusal;
 pub use decode::{Answer, decode_soft};
-pub use modes::Kind;
-use modes::Train;
+use lent::{axes_short, lent_tested};
+pub use modes::{Description, Kind, PduList, Refusal};
+use modes::{Mode, Train};
 use points::Point;
 pub use readings::{decode_readings, soften};
 
-// What `mapped` answers: a refusal number, and the point of the group.
-#[derive(Drop)]
-pub struct Mapping {
-    pub refusal: u32,
-    pub point: Point,
-}
-
-// Room for the coded bits of the longest train.
-fn coded_room() -> [u8; 6924]
-    ensures { (length result ≡ 6924) × (result ≡ replicate 6924 0) }
+// The sent bits of a train, when all has been tested.
+fn send(train: &Train, octets: &[u8], sent: &mut [u8])
+    requires octets_long { length octets.now ≡ octets_of (length_of (pdus_in train.now)) }
+    requires sent_room { sent_of (pdus_in train.now) ≤ length sent.old }
+    requires counter_same { counter_other train.now.kind train.now.counter octets.now ≡ false }
+    ensures { sent.new ≡ filled (sent_of (pdus_in train.now)) (sent_bit train.now.kind (pdus_in train.now) train.now.counter train.now.a octets.now) sent.old }
 {
-    [0; 6924]
-}
-
-// The sent bits of a train of n information bits, when all has been tested.
-fn send(train: Train, n: usize, octets: &[u8], sent: &mut [u8])
-    requires legal_list { LegalList (pdus_in train) train.counter train.a × (n ≡ length_of (pdus_in train)) }
-    requires octets_len { (length octets.now ≡ octets_of n) × (sent_of (pdus_in train) ≤ length sent.old) × (counter_other train.kind train.counter octets.now ≡ false) }
-    ensures { sent.new ≡ filled (sent_of (pdus_in train)) (sent_bit train.kind (pdus_in train) train.counter train.a octets.now) sent.old }
-{
-    let kind = train.kind;
-    let counter = train.counter;
-    let first = modes::first_scrambled(kind);
-    let mut coded = coded_room();
-    coder::code(first, counter, n, octets, &mut coded);
+    let first = modes::first_scrambled(train.kind);
+    let n = train.counts().n;
+    let mut coded = [0; 6924];
+    coder::code(first, train.counter, n, octets, &mut coded);
     places::send_train(train, &coded, sent);
 }
 
@@ -63,125 +52,67 @@ fn counter_other(kind: Kind, counter: u32, octets: &[u8]) -> bool
 }
 
 // The sent bits of a train, one to a byte, in the order after the interleaver.
-pub fn encode(
-    kind: Kind,
-    count: u32,
-    modes: &[u32; 16],
-    lengths: &[u32; 16],
-    counter: u32,
-    a: u32,
-    octets: &[u8],
-    sent: &mut [u8],
-) -> u32
-    ensures { Encode kind (pdus_of count modes.now lengths.now) counter a octets.now sent.old result sent.new }
+pub fn encode(by: &Description, octets: &[u8], sent: &mut [u8]) -> Result<(), Refusal>
+    ensures { Encode by.now.kind (told by.now.list) by.now.counter by.now.a octets.now sent.old (answer_of result) sent.new }
 {
-    let refusal = modes::refusal(kind, count, modes, lengths, counter, a);
-    if refusal != 0 {
-        return refusal;
-    }
-    let train = modes::train_of(kind, count, modes, lengths, counter, a);
-    let counts = modes::counts_of(train);
-    let n = counts.n;
-    let other = counter_other(kind, counter, octets);
-    let late = lent_refusal(12, octets.len() != n / 8, sent.len() < counts.sent, other);
-    if late != 0 {
-        return late;
-    }
-    send(train, n, octets, sent);
-    0
+    let train = Train::described(by)?;
+    let counts = train.counts();
+    let other = counter_other(by.kind, by.counter, octets);
+    lent_tested(
+        Refusal::Kind,
+        octets.len() != counts.n / 8,
+        sent.len() < counts.sent,
+        other,
+    )?;
+    send(&train, octets, sent);
+    Ok(())
 }
 
-// Whether there is too little room for the readings of I or of Q.
-fn axes_short(carriers: usize, i: usize, q: usize) -> bool
-    ensures { result ≡ (ltb i carriers || ltb q carriers) }
+// The ideal readings of a train's sent bits PDU by PDU. `soften_train` of readings.rt writes what this one reads and takes as long: a walk
+// for both would have to be lent its buffers by a closure.
+#[tactic(auto, using(crate::proofs::ReadLaws::reached_small, crate::proofs::ReadLaws::carriers_kept))]
+fn read_train(train: &Train, sent: &[u8], i: &mut [i16], q: &mut [i16])
+    requires sent_long { sent_of (pdus_in train.now) ≤ length sent.now }
+    requires room { (carriers_of (pdus_in train.now) ≤ length i.old) × (carriers_of (pdus_in train.now) ≤ length q.old) }
+    ensures i { i.new ≡ filled (carriers_of (pdus_in train.now)) (list_i (pdus_in train.now) sent.now) i.old }
+    ensures q { q.new ≡ filled (carriers_of (pdus_in train.now)) (list_q (pdus_in train.now) sent.now) q.old }
 {
-    if i < carriers {
-        return true;
-    }
-    q < carriers
-}
-
-// The ideal readings of a train's sent bits PDU by PDU.
-fn read_train(train: Train, sent: &[u8], i: &mut [i16], q: &mut [i16])
-    requires fit_list { FitList (pdus_in train) × (sent_of (pdus_in train) ≤ length sent.now) }
-    requires train_in_bounds { (carriers_of (pdus_in train) ≤ length i.old) × (carriers_of (pdus_in train) ≤ length q.old) }
-    ensures { (i.new ≡ filled (carriers_of (pdus_in train)) (list_i (pdus_in train) sent.now) i.old) × (q.new ≡ filled (carriers_of (pdus_in train)) (list_q (pdus_in train) sent.now) q.old) }
-{
-    let count = train.count;
-    let mut k = 0usize;
-    let mut bits = 0usize;
-    let mut carriers = 0usize;
-    while k < count {
-        let pdu = train.pdus[k];
-        let mode = pdu.mode;
-        let c = mode.constellation;
-        let more = 48 * modes::symbols_of(mode, pdu.n);
+    let mut bits = 0;
+    let mut carriers = 0;
+    for pdu in train.pdus.as_slice() {
+        let more = 48 * pdu.symbols();
         points::readings(
-            c,
+            pdu.mode.constellation,
             more,
             &sent[bits..],
             &mut i[carriers..],
             &mut q[carriers..],
         );
-        bits += modes::sent_bits(mode, pdu.n);
+        bits += pdu.sent_bits();
         carriers += more;
-        k += 1;
     }
 }
 
 // The ideal readings of a train's sent bits, one to a byte: 48 for each symbol on I, and as many on Q.
-pub fn ideal(
-    count: u32,
-    modes: &[u32; 16],
-    lengths: &[u32; 16],
-    sent: &[u8],
-    i: &mut [i16],
-    q: &mut [i16],
-) -> u32
-    ensures { Ideal (pdus_of count modes.now lengths.now) sent.now i.old q.old result i.new q.new }
+pub fn ideal(list: &PduList, sent: &[u8], i: &mut [i16], q: &mut [i16]) -> Result<(), Refusal>
+    ensures { Ideal (told list.now) sent.now i.old q.old (answer_of result) i.new q.new }
 {
-    let refusal = modes::sized_refusal(count, modes, lengths);
-    if refusal != 0 {
-        return refusal;
-    }
-    let train = modes::train_of(Kind::Data, count, modes, lengths, 0, 0);
-    let counts = modes::counts_of(train);
+    let train = Train::sized(list)?;
+    let counts = train.counts();
     let short = axes_short(48 * counts.symbols, i.len(), q.len());
     let bits = points::bits_ok(sent);
-    let late = lent_refusal(9, sent.len() != counts.sent, short, !bits);
-    if late != 0 {
-        return late;
-    }
-    read_train(train, sent, i, q);
-    0
-}
-
-fn refused_point(refusal: u32) -> Mapping
-    ensures { (result.refusal ≡ refusal) × (result.point.i ≡ plus_zero) × (result.point.q ≡ plus_zero) }
-{
-    Mapping {
-        refusal,
-        point: Point { i: 0.0, q: 0.0 },
-    }
+    lent_tested(Refusal::Value, sent.len() != counts.sent, short, !bits)?;
+    read_train(&train, sent, i, q);
+    Ok(())
 }
 
 // The point of one group value, its earliest bit the highest.
-pub fn mapped(mode: u32, group: u32) -> Mapping
-    ensures { MapsTo mode group result.refusal result.point.i result.point.q }
+pub fn mapped(mode: u32, group: u32) -> Result<Point, Refusal>
+    ensures { MapsTo mode group (answer_of result) (point_i result) (point_q result) }
 {
-    if mode < 1 {
-        return refused_point(1);
-    }
-    if 7 < mode {
-        return refused_point(1);
-    }
-    let m = modes::mode_of(mode);
-    let c = m.constellation;
+    let c = Mode::try_from(mode)?.constellation;
     if 1 << modes::bits_per_carrier(c) <= group {
-        return refused_point(9);
+        return Err(Refusal::Value);
     }
-    Mapping {
-        refusal: 0,
-        point: points::point_of(c, group as usize),
-    }
+    Ok(points::point_of(c, group as usize))
 }

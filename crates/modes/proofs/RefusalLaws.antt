@@ -22,7 +22,7 @@ pub neither : (a b : Bool) → (a || b) ≡ false → (a ≡ false) × (b ≡ fa
 neither true b e = let z : ◌≡◌ {A = ℕ} 0 1 = cc in absurd (omega arith)
 neither false b e = (refl, e)
 
-within : (least most x : ℕ) → outside least most x ≡ false → (least ≤ x) × (x ≤ most)
+pub within : (least most x : ℕ) → outside least most x ≡ false → (least ≤ x) × (x ≤ most)
 within least most x e =
     let parts = neither (ltb x least) (ltb most x) e in
     (ltb-false x least parts.0, ltb-false most x parts.1)

@@ -1,31 +1,35 @@
 -- `modem::mapped` keeps its promise, test by test (PointLaws).
 -- Assumes nothing.
-use mathlib.Core.Path.{◌≡◌}
-use Prim.Native.Nat.{◌*◌, ◌%◌, ◌^◌}
+use mathlib.Core.Path.{◌≡◌, refl}
+use Prim.Native.Nat.{◌*◌, ◌%◌, ◌^◌, ◌≤◌}
 use native.Mathlib.Omega.{arith}
+use Rattle.std.proofs.lemmas.Result.{err_from_is_err_and}
 use Rattle.modes.specs.Modes.{bits}
-use Rattle.modem.proofs.PointLaws.{groups_of, refused_as, refusal_below_1, refusal_above_7, refusal_9, mapped_done}
+use Rattle.modes.proofs.RefusalNumbers.{above_0}
+use Rattle.modem.proofs.PointLaws.{groups_of, refused_as, refusal_mode, mode_known, refusal_9, mapped_done}
 use Rattle.modem.proofs.mapped.Goals.{After-bits_per_carrier}
 use Rattle.modem.proofs.mapped.Goals as goal
 
+known : (c : After-bits_per_carrier) → (1 ≤ c.args.mode) × (c.args.mode ≤ 7)
+known c = mode_known _ c.in_ok-c.ensures.answer
+
 -- the groups that are counted are the mode's
 counted : (c : After-bits_per_carrier) → 1 * 2 ^ c.bits_per_carrier.result % 2 ^ 32 ≡ 2 ^ bits c.args.mode
-counted c = groups_of _ _ _ (omega arith) (omega arith) c.mode_of-m.ensures.0 c.bits_per_carrier.ensures.0
+counted c = groups_of _ _ _ (known c).0 (known c).1 c.in_ok-c.ensures.done.0 c.bits_per_carrier.ensures.0
 
-pub returns-then-mode-lt1 : goal.returns-then-mode-lt1
-returns-then-mode-lt1 c = refused_as _ _ 1 _ _ _ (refusal_below_1 _ _ c.if-mode-lt1.true) (λ z. omega arith) c.refused_point.ensures
-
-pub returns-then-mode-gt7 : goal.returns-then-mode-gt7
-returns-then-mode-gt7 c =
-    refused_as _ _ 1 _ _ _ (refusal_above_7 _ _ c.if-mode-lt1.false c.if-mode-gt7.true) (λ z. omega arith) c.refused_point-then-mode-gt7.ensures
+pub returns-in_err-c : goal.returns-in_err-c
+returns-in_err-c c =
+    let p = err_from_is_err_and c.from_residual.result c.from_residual.ensures.1 in
+    rw (p.1, p.2) (refused_as _ _ _ _ _ _ (refusal_mode _ _ _ c.in_err-c.ensures.answer (above_0 _)) (above_0 _) (refl, refl, refl))
 
 pub returns-then-bits_per_carrier-group : goal.returns-then-bits_per_carrier-group
 returns-then-bits_per_carrier-group c =
-    let groups = counted (goal.at.returns-then-bits_per_carrier-group c).After-bits_per_carrier in
-    refused_as _ _ 9 _ _ _ (refusal_9 _ _ (omega arith) (omega arith) (omega (arith, groups))) (λ z. omega arith)
-    c.refused_point-then-bits_per_carrier-group.ensures
+    let turn = (goal.at.returns-then-bits_per_carrier-group c).After-bits_per_carrier in
+    let mode = known turn in
+    refused_as _ _ 9 _ _ _ (refusal_9 _ _ mode.0 mode.1 (omega (arith, counted turn))) (λ z. omega arith) (refl, refl, refl)
 
 pub returns : goal.returns
 returns c =
-    let groups = counted (goal.at.returns c).After-bits_per_carrier in
-    mapped_done _ _ _ _ _ (omega arith) (omega arith) (omega (arith, groups)) c.mode_of-m.ensures.0 c.point_of.ensures
+    let turn = (goal.at.returns c).After-bits_per_carrier in
+    let mode = known turn in
+    mapped_done _ _ _ _ _ mode.0 mode.1 (omega (arith, counted turn)) c.in_ok-c.ensures.done.0 c.point_of.ensures

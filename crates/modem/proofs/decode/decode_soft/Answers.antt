@@ -1,69 +1,69 @@
 -- `modem::decode::decode_soft` keeps its promise, test by test (LentLaws).
 -- Assumes nothing.
-use mathlib.Core.Path.{refl, sym, ◌∙◌}
+use mathlib.Core.Path.{◌≡◌, sym, ◌∙◌}
 use Prim.Native.Nat.{◌+◌}
+use native.Mathlib.Omega.{arith}
 use lib.ListN.{length}
 use borrow.Author.Tests.{eqb-true, not-false}
+use Rattle.std.proofs.lemmas.Result.{err_from_is_err_and}
+use Rattle.laws.specs.Ladder.{ladder}
 use Rattle.modes.specs.Sizes.{octets_of}
-use Rattle.modes.proofs.KindLaws.{encode_legal}
+use Rattle.modes.specs.Kinds.{heeded}
+use Rattle.modes.specs.Refusals.{decode_described}
+use Rattle.modes.specs.Passed.{told, Describes}
+use Rattle.modes.proofs.RefusalNumbers.{above_0}
 use Rattle.modem.specs.Decode.{soft_refusal, DecodeSoft}
 use Rattle.modem.proofs.LentLaws.{enough_room, lent_passed, described_refused, lent_refused, all_done}
-use Rattle.modem.proofs.ToldLaws.{told}
-use Rattle.modem.proofs.PassedLaws.{passed_known, heeded_known, tallied, train_small, passed_decoded, heeded_tested, passed_heeded}
+use Rattle.modem.proofs.PassedLaws.{Tallied, tallied, train_short, passed_decoded, heeded_tested}
+use Rattle.modem.proofs.decode.decode_soft.Goals.{After-counts-counts}
 use Rattle.modem.proofs.decode.decode_soft.Goals as goal
 
-pub returns-then-refusal-ne0 : goal.returns-then-refusal-ne0
+-- the description is not refused, and the Train is its
+holds : (c : After-counts-counts) → Describes c.args.by.now.kind (told c.args.by.now.list) (heeded c.args.by.now.kind c.args.by.now.counter) c.args.by.now.a c.in_ok-train.train
+holds c = rw c.heeded.ensures at c.in_ok-train.ensures.done
+
+passed : (c : After-counts-counts) → ladder (decode_described c.args.by.now.kind (told c.args.by.now.list) c.args.by.now.counter c.args.by.now.a) ≡ 0
+passed c = sym (heeded_tested _ _ _ _ _ (rw c.heeded.ensures at c.in_ok-train.ensures.answer))
+
+count : (c : After-counts-counts) → Tallied (told c.args.by.now.list) c.counts-counts.result.n c.counts-counts.result.symbols c.counts-counts.result.sent
+count c = let counted = c.counts-counts.ensures in tallied _ _ _ _ _ (holds c).list_is counted.n counted.symbols counted.sent
+
+pub returns-in_err-train : goal.returns-in_err-train
 unfolding DecodeSoft soft_refusal
-returns-then-refusal-ne0 c =
-    let tested = heeded_tested _ _ _ _ _ _ c.heeded_counter-counter.ensures c.refusal-refusal.ensures in
-    told _ _ _ _ _ (described_refused _ _ _ _ _ _ _ _ tested c.if-refusal-ne0.true) c.refused.ensures
-
-pub train_of-train-requires : goal.train_of-train-requires
-train_of-train-requires c = (encode_legal _ _ _ _ (sym c.refusal-refusal.ensures ∙ c.if-refusal-ne0.false)).fit
-
-pub counts_of-counts-requires : goal.counts_of-counts-requires
-counts_of-counts-requires c = (passed_known c.refusal-refusal.ensures c.if-refusal-ne0.false c.train_of-train.ensures).made.fit
+returns-in_err-train c =
+    let p = err_from_is_err_and c.from_residual.result c.from_residual.ensures.1 in
+    rw (p.1, p.2) (described_refused _ _ _ _ _ _ _ _ (heeded_tested _ _ _ _ _ (rw c.heeded.ensures at c.in_err-train.ensures.answer)) (above_0 _))
 
 pub room_short-short-requires : goal.room_short-short-requires
-room_short-short-requires c =
-    let known = passed_known c.refusal-refusal.ensures c.if-refusal-ne0.false c.train_of-train.ensures in
-    (train_small _ known.made.fit c.counts_of-counts.ensures).0
+room_short-short-requires c = omega (arith, c.counts-counts.ensures.n, (train_short c.in_ok-train.train).0)
 
-pub returns-then-late-ne0 : goal.returns-then-late-ne0
+pub returns-in_err-lent_tested : goal.returns-in_err-lent_tested
 unfolding DecodeSoft soft_refusal
-returns-then-late-ne0 c =
-    let known = heeded_known _ c.heeded_counter-counter.ensures c.refusal-refusal.ensures c.if-refusal-ne0.false c.train_of-train.ensures in
-    let count = tallied _ _ _ _ _ known.holds.list_is c.counts_of-counts.ensures in
-    told _ _ _ _ _
-    (lent_refused _ _ _ _ _ _ _ (passed_heeded _ _ _ _ _ known) _
-    (rw (← count.sent_is, ← count.n_is, ← c.room_short-short.ensures, ← c.soft_ok-in_range.ensures) c.lent_refusal-late.ensures)
-    c.if-late-ne0.true)
-    c.refused-then-late-ne0.ensures
+returns-in_err-lent_tested c =
+    let turn = (goal.at.returns-in_err-lent_tested c).After-counts-counts in
+    let count = count turn in
+    let p = err_from_is_err_and c.from_residual-in_err-lent_tested.result c.from_residual-in_err-lent_tested.ensures.1 in
+    rw (p.1, p.2)
+    (lent_refused _ _ _ _ _ _ _ (passed turn) _
+    (rw (← count.sent_is, ← count.n_is, ← c.room_short-short.ensures, ← c.soft_ok-in_range.ensures) c.in_err-lent_tested.ensures)
+    (above_0 _))
 
-pub find-found-requires : goal.find-found-requires
-find-found-requires c =
-    let known = passed_known c.refusal-refusal.ensures c.if-refusal-ne0.false c.train_of-train.ensures in
-    let (wrong, short, outside) = lent_passed 8 _ _ _ (sym c.lent_refusal-late.ensures ∙ c.if-late-ne0.false) in
-    let n = c.counts_of-counts.result.n in record {
-      legal_list = (known.made, c.counts_of-counts.ensures.0);
-      soft_len = (eqb-true _ _ (not-false _ wrong) ∙ c.counts_of-counts.ensures.2, sym c.soft_ok-in_range.ensures ∙ not-false _ outside);
-      n_in_bounds = enough_room (length c.args.octets.now) (length c.args.words.now) (octets_of n) (n + 6) (sym c.room_short-short.ensures ∙ short);
+pub find-requires : goal.find-requires
+find-requires c =
+    let (wrong, short, outside) = lent_passed 8 _ _ _ (sym c.in_ok-lent_tested.ensures) in
+    let n = c.counts-counts.result.n in
+    let room = enough_room (length c.args.octets.now) (length c.args.words.now) (octets_of n) (n + 6) (sym c.room_short-short.ensures ∙ short) in
+    record {
+      soft_fit = (eqb-true _ _ (not-false _ wrong) ∙ c.counts-counts.ensures.sent, sym c.soft_ok-in_range.ensures ∙ not-false _ outside);
+      octets_room = rw c.counts-counts.ensures.n at room.0;
+      words_room = rw c.counts-counts.ensures.n at room.1;
     }
-
-pub done-requires : goal.done-requires
-done-requires c =
-    let known = passed_known c.refusal-refusal.ensures c.if-refusal-ne0.false c.train_of-train.ensures in
-    let small = train_small _ known.made.fit c.counts_of-counts.ensures in
-    (small.1, small.2)
 
 pub returns : goal.returns
 unfolding DecodeSoft soft_refusal
 returns c =
-    let known = heeded_known _ c.heeded_counter-counter.ensures c.refusal-refusal.ensures c.if-refusal-ne0.false c.train_of-train.ensures in
-    let count = tallied _ _ _ _ _ known.holds.list_is c.counts_of-counts.ensures in
-    told _ _ _ _ _
-    (all_done _ _ _ _ _ _ _ (passed_heeded _ _ _ _ _ known)
-    (rw (← count.sent_is, ← count.n_is, ← c.room_short-short.ensures, ← c.soft_ok-in_range.ensures)
-    (sym c.lent_refusal-late.ensures ∙ c.if-late-ne0.false))
-    _ (passed_decoded _ _ _ _ _ known _ _ refl _ _ _ _ _ _ _ _ _ _ count c.find-found.ensures))
-    c.done.ensures
+    let turn = (goal.at.returns c).After-counts-counts in
+    let count = count turn in
+    all_done _ _ _ _ _ _ _ (passed turn)
+    (rw (← count.sent_is, ← count.n_is, ← c.room_short-short.ensures, ← c.soft_ok-in_range.ensures) (sym c.in_ok-lent_tested.ensures))
+    _ (passed_decoded _ _ _ _ _ (holds turn) _ _ _ _ c.find.ensures)

@@ -1,28 +1,29 @@
 -- `modem::decode::find`: soft bytes back to their coded bits, and the train that is then picked.
 -- Assumes nothing.
 use native.Mathlib.Omega.{arith}
-use Rattle.modem.proofs.SizeLaws.{octets_whole}
-use Rattle.modem.proofs.SendLaws.{train_room}
+use Rattle.modes.proofs.DescriptionLaws.{legal}
 use Rattle.modem.proofs.HeardLaws.{all_heard, same_cost, same_differing}
 use Rattle.modem.proofs.PickLaws.{chosen_same}
 use Rattle.modem.proofs.decode.find.Goals as goal
 
 pub spread_train-requires : goal.spread_train-requires
 spread_train-requires c =
-    let legal = c.requires.legal_list.0 in
-    train_room _ _ _ legal _ _ (omega (arith, legal.fit.to_3456, c.coded_room-heard.ensures.0)) (omega (arith, c.requires.soft_len.0))
+    record { all_coded = omega (arith, (legal c.args.train.now).fit.to_3456); room = omega (arith, c.requires.soft_fit.0) }
 
-pub pick-requires : goal.pick-requires
-pick-requires c =
-    let legal = c.requires.legal_list.0 in
-    let most = legal.fit.to_3456 in record { counter_bound = (legal.to_15, omega (arith, c.requires.legal_list.1, legal.inside), omega (arith, c.requires.legal_list.1, most), rw c.requires.legal_list.1 (octets_whole _ legal.fit.each)); n_in_bounds = (omega (arith, c.requires.legal_list.1, most, c.coded_room-heard.ensures.0, c.spread_train.auto.heard), c.requires.n_in_bounds.0, c.requires.n_in_bounds.1) }
+pub pick-requires-clause-heard_long : goal.pick-requires-clause-heard_long
+pick-requires-clause-heard_long c = omega (arith, (legal c.args.train.now).fit.to_3456, c.spread_train.auto.heard)
 
 pub returns : goal.returns
 returns c =
-    let legal = c.requires.legal_list.0 in
-    let by_place = rw c.coded_room-heard.ensures.1 at c.spread_train.ensures in
-    let heard = all_heard c.args.soft.now c.requires.soft_len.1 in
-    chosen_same _ _ _ _ _ _ _ _ _ _ _ _ _
-    (rw c.requires.legal_list.1 (same_cost _ _ legal.fit.each legal.inside _ _ 6924 by_place (λ q h. heard q)))
-    (rw c.requires.legal_list.1 (same_differing _ _ legal.fit.each legal.inside _ _ 6924 by_place (λ q h. heard q)))
-    c.pick.ensures
+    let legal = legal c.args.train.now in
+    let by_place = c.spread_train.ensures in
+    let heard = all_heard c.args.soft.now c.requires.soft_fit.1 in
+    record {
+      chosen =
+          chosen_same _ _ _ _ _ _ _ _ _ _ _ _ _
+          (same_cost _ _ legal.fit.each legal.inside _ _ 6924 by_place (λ q h. heard q))
+          (same_differing _ _ legal.fit.each legal.inside _ _ 6924 by_place (λ q h. heard q))
+          c.pick.ensures.chosen;
+      all_symbols = c.pick.ensures.all_symbols;
+      all_sent = c.pick.ensures.all_sent;
+    }

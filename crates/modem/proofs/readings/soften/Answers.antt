@@ -5,51 +5,51 @@ use Prim.Native.Nat.{◌*◌}
 use native.Mathlib.Omega.{arith}
 use lib.ListN.{length}
 use borrow.Author.Tests.{ltb-false}
-use Rattle.modes.proofs.RefusalLaws.{list_fit}
+use Rattle.std.proofs.lemmas.Result.{err_from_is_err_and}
+use Rattle.modes.specs.Passed.{told}
+use Rattle.modes.proofs.RefusalNumbers.{above_0}
 use Rattle.modem.specs.Soften.{soften_refusal, Soften}
 use Rattle.modem.proofs.LentLaws.{right_counts, lent_passed, described_refused, lent_refused, all_done}
-use Rattle.modem.proofs.PassedLaws.{sized_known, tallied, train_small, train_carriers, passed_softened}
+use Rattle.modem.proofs.PassedLaws.{Tallied, tallied, train_short, train_carriers, passed_softened}
+use Rattle.modem.proofs.readings.soften.Goals.{After-counts-counts}
 use Rattle.modem.proofs.readings.soften.Goals as goal
 
-pub returns-then-refusal-ne0 : goal.returns-then-refusal-ne0
+count : (c : After-counts-counts) → Tallied (told c.args.list.now) c.counts-counts.result.n c.counts-counts.result.symbols c.counts-counts.result.sent
+count c = let counted = c.counts-counts.ensures in tallied _ _ _ _ _ c.in_ok-train.ensures.done.list_is counted.n counted.symbols counted.sent
+
+pub returns-in_err-train : goal.returns-in_err-train
 unfolding Soften soften_refusal
-returns-then-refusal-ne0 c = described_refused _ _ _ _ _ _ _ _ c.sized_refusal-refusal.ensures c.if-refusal-ne0.true
-
-pub train_of-train-requires : goal.train_of-train-requires
-train_of-train-requires c = list_fit _ (sym c.sized_refusal-refusal.ensures ∙ c.if-refusal-ne0.false)
-
-pub counts_of-counts-requires : goal.counts_of-counts-requires
-counts_of-counts-requires c = (sized_known c.sized_refusal-refusal.ensures c.if-refusal-ne0.false c.train_of-train.ensures).made
+returns-in_err-train c =
+    let p = err_from_is_err_and c.from_residual.result c.from_residual.ensures.1 in
+    rw (p.1, p.2) (described_refused _ _ _ _ _ _ _ _ c.in_err-train.ensures.answer (above_0 _))
 
 pub overflow_mul-counts : goal.overflow_mul-counts
-overflow_mul-counts c =
-    let known = sized_known c.sized_refusal-refusal.ensures c.if-refusal-ne0.false c.train_of-train.ensures in
-    omega (arith, (train_small _ known.made c.counts_of-counts.ensures).1)
+overflow_mul-counts c = omega (arith, (train_short c.in_ok-train.train).1, c.counts-counts.ensures.symbols)
 
-pub returns-then-late-ne0 : goal.returns-then-late-ne0
+pub returns-in_err-lent_tested : goal.returns-in_err-lent_tested
 unfolding Soften soften_refusal
-returns-then-late-ne0 c =
-    let count = tallied _ _ _ _ _ c.train_of-train.ensures.list_is c.counts_of-counts.ensures in
-    lent_refused _ _ _ _ _ _ _ (sym c.sized_refusal-refusal.ensures ∙ c.if-refusal-ne0.false) _
-    (rw (← count.sent_is, ← count.carriers_is, ← c.readings_wrong-wrong.ensures) c.lent_refusal-late.ensures)
-    c.if-late-ne0.true
+returns-in_err-lent_tested c =
+    let count = count (goal.at.returns-in_err-lent_tested c).After-counts-counts in
+    let p = err_from_is_err_and c.from_residual-in_err-lent_tested.result c.from_residual-in_err-lent_tested.ensures.1 in
+    rw (p.1, p.2)
+    (lent_refused _ _ _ _ _ _ _ (sym c.in_ok-train.ensures.answer) _
+    (rw (← count.sent_is, ← count.carriers_is, ← c.readings_wrong-wrong.ensures) c.in_err-lent_tested.ensures)
+    (above_0 _))
 
 pub soften_train-requires : goal.soften_train-requires
 soften_train-requires c =
-    let known = sized_known c.sized_refusal-refusal.ensures c.if-refusal-ne0.false c.train_of-train.ensures in
-    let (wrong, short, _) = lent_passed 8 _ _ _ (sym c.lent_refusal-late.ensures ∙ c.if-late-ne0.false) in
-    let carriers = 48 * c.counts_of-counts.result.symbols in
+    let (wrong, short, _) = lent_passed 8 _ _ _ (sym c.in_ok-lent_tested.ensures) in
+    let carriers = 48 * c.counts-counts.result.symbols in
     let (on_i, on_q) = right_counts (length c.args.i.now) (length c.args.q.now) carriers (sym c.readings_wrong-wrong.ensures ∙ wrong) in
-    let all_carriers = train_carriers _ c.counts_of-counts.ensures.1 in record {
-      fit_list = (known.made, omega (arith, ltb-false _ _ short));
-      train_in_bounds = (omega (arith, on_i, all_carriers), omega (arith, on_q, all_carriers));
+    let all_carriers = train_carriers c.in_ok-train.train c.counts-counts.ensures.symbols in record {
+      readings_long = (omega (arith, on_i, all_carriers), omega (arith, on_q, all_carriers));
+      room = omega (arith, c.counts-counts.ensures.sent, ltb-false _ _ short);
     }
 
 pub returns : goal.returns
 unfolding Soften soften_refusal
 returns c =
-    let known = sized_known c.sized_refusal-refusal.ensures c.if-refusal-ne0.false c.train_of-train.ensures in
-    let count = tallied _ _ _ _ _ known.list_is c.counts_of-counts.ensures in
-    all_done _ _ _ _ _ _ _ known.zero
-    (rw (← count.sent_is, ← count.carriers_is, ← c.readings_wrong-wrong.ensures) (sym c.lent_refusal-late.ensures ∙ c.if-late-ne0.false))
-    _ (passed_softened _ _ known _ _ _ _ c.soften_train.ensures)
+    let count = count (goal.at.returns c).After-counts-counts in
+    all_done _ _ _ _ _ _ _ (sym c.in_ok-train.ensures.answer)
+    (rw (← count.sent_is, ← count.carriers_is, ← c.readings_wrong-wrong.ensures) (sym c.in_ok-lent_tested.ensures))
+    _ (passed_softened c.in_ok-train.ensures.done _ _ _ _ c.soften_train.ensures)
