@@ -1,20 +1,21 @@
 // The public calls under C names, for the static library libjuzambore.a: `host/libraries.sh juzambore`. juzambore.h declares them.
-// Each carries the promise of its call in `modem`. A kind is a number, a slice is a pointer and a length, a list's two arrays are
+// Each carries the promise of its call in `modem`. A kind and a refusal are numbers, a slice is a pointer and a length, a list's two arrays are
 // pointers to sixteen numbers; lent buffers do not overlap.
 #![tactic(auto)]
 
 ghost use Rattle.std.specs.Prelude.{◌≡◌, ◌≤◌, eqb};
 ghost use Rattle.modes.specs.Kinds.{kind_of};
 ghost use Rattle.modes.specs.Pdus.{pdus_of};
+ghost use Rattle.modes.specs.Refusal.{answer_of};
+ghost use Rattle.modes.specs.Passed.{told};
 ghost use Rattle.modem.specs.Encode.{Encode};
 ghost use Rattle.modem.specs.Ideal.{Ideal};
 ghost use Rattle.modem.specs.Point.{MapsTo};
 ghost use Rattle.modem.specs.Soften.{Soften};
-ghost use Rattle.modem.specs.Told.{Tells};
 ghost use Rattle.modem.specs.Decode.{outcome, DecodeSoft, DecodeReadings};
+ghost use Rattle.juzambore.specs.Said.{Said, SaidAs};
 
-use modem::Answer;
-use modes::Kind;
+use modem::{Answer, Description, Kind, PduList, Refusal};
 
 #[repr(C)]
 #[derive(Drop)]
@@ -36,11 +37,43 @@ pub struct JuzamboreAnswer {
     pub comparisons: u32,
 }
 
-// 0 is data, any other number BCH.
-fn kind_of(number: u32) -> Kind
-    ensures { result ≡ kind_of number }
+// The PDUs by a count and two arrays of sixteen, as C lends them.
+fn listed(count: u32, modes: &[u32; 16], lengths: &[u32; 16]) -> PduList
+    ensures { told result ≡ pdus_of count modes.now lengths.now }
 {
-    if number == 0 { Kind::Data } else { Kind::Bch }
+    PduList {
+        count,
+        modes: *modes,
+        lengths: *lengths,
+    }
+}
+
+fn described(
+    kind: u32,
+    count: u32,
+    modes: &[u32; 16],
+    lengths: &[u32; 16],
+    counter: u32,
+    a: u32,
+) -> Description
+    ensures { Said (kind_of kind) (pdus_of count modes.now lengths.now) counter a result }
+{
+    Description {
+        kind: Kind::from(kind),
+        list: listed(count, modes, lengths),
+        counter,
+        a,
+    }
+}
+
+// What a call without outputs of its own answers: 0, or the number of its refusal.
+fn number(answer: Result<(), Refusal>) -> u32
+    ensures { result ≡ answer_of answer }
+{
+    match answer {
+        Ok(()) => 0,
+        Err(refusal) => u32::from(refusal),
+    }
 }
 
 #[unsafe(no_mangle)]
@@ -56,8 +89,8 @@ pub extern "C" fn juzambore_encode(
 ) -> u32
     ensures { Encode (kind_of kind) (pdus_of count modes.now lengths.now) counter a octets.now sent.old result sent.new }
 {
-    let kind = kind_of(kind);
-    modem::encode(kind, count, modes, lengths, counter, a, octets, sent)
+    let by = described(kind, count, modes, lengths, counter, a);
+    number(modem::encode(&by, octets, sent))
 }
 
 #[unsafe(no_mangle)]
@@ -71,18 +104,24 @@ pub extern "C" fn juzambore_ideal(
 ) -> u32
     ensures { Ideal (pdus_of count modes.now lengths.now) sent.now i.old q.old result i.new q.new }
 {
-    modem::ideal(count, modes, lengths, sent, i, q)
+    number(modem::ideal(&listed(count, modes, lengths), sent, i, q))
 }
 
 #[unsafe(no_mangle)]
 pub extern "C" fn juzambore_mapped(mode: u32, group: u32) -> JuzamborePoint
     ensures { MapsTo mode group result.refusal result.i result.q }
 {
-    let m = modem::mapped(mode, group);
-    JuzamborePoint {
-        refusal: m.refusal,
-        i: m.point.i,
-        q: m.point.q,
+    match modem::mapped(mode, group) {
+        Ok(point) => JuzamborePoint {
+            refusal: 0,
+            i: point.i,
+            q: point.q,
+        },
+        Err(refusal) => JuzamborePoint {
+            refusal: u32::from(refusal),
+            i: 0.0,
+            q: 0.0,
+        },
     }
 }
 
@@ -97,21 +136,32 @@ pub extern "C" fn juzambore_soften(
 ) -> u32
     ensures { Soften (pdus_of count modes.now lengths.now) i.now q.now soft.old result soft.new }
 {
-    modem::soften(count, modes, lengths, i, q, soft)
+    number(modem::soften(&listed(count, modes, lengths), i, q, soft))
 }
 
-// What a decode answers, its mark as 1 or 0.
-fn told(answer: Answer) -> JuzamboreAnswer
-    ensures tells { Tells answer.refusal answer.symbols answer.n answer.cost answer.confirmed answer.comparisons result.refusal result.symbols result.n result.cost (eqb result.confirmed 1) result.comparisons }
-    ensures flag { result.confirmed ≤ 1 }
-{
-    JuzamboreAnswer {
-        refusal: answer.refusal,
-        symbols: answer.symbols,
-        n: answer.n,
-        cost: answer.cost,
-        confirmed: if answer.confirmed { 1 } else { 0 },
-        comparisons: answer.comparisons,
+// What a decode answers, its mark as 1 or 0; zero for all of it but the refusal where it is refused.
+impl From<Result<Answer, Refusal>> for JuzamboreAnswer {
+    ghost from_gives = { SaidAs };
+
+    fn from(decoded: Result<Answer, Refusal>) -> JuzamboreAnswer {
+        match decoded {
+            Ok(answer) => JuzamboreAnswer {
+                refusal: 0,
+                symbols: answer.symbols,
+                n: answer.n,
+                cost: answer.cost,
+                confirmed: u32::from(answer.confirmed),
+                comparisons: answer.comparisons,
+            },
+            Err(refusal) => JuzamboreAnswer {
+                refusal: u32::from(refusal),
+                symbols: 0,
+                n: 0,
+                cost: 0,
+                confirmed: 0,
+                comparisons: 0,
+            },
+        }
     }
 }
 
@@ -130,9 +180,8 @@ pub extern "C" fn juzambore_decode_soft(
     ensures decode_soft { DecodeSoft (kind_of kind) (pdus_of count modes.now lengths.now) counter a soft.now octets.old words.old result.refusal (outcome result.symbols result.n result.cost (eqb result.confirmed 1) result.comparisons octets.new words.new) }
     ensures flag { result.confirmed ≤ 1 }
 {
-    let kind = kind_of(kind);
-    let answer = modem::decode_soft(kind, count, modes, lengths, counter, a, soft, octets, words);
-    told(answer)
+    let by = described(kind, count, modes, lengths, counter, a);
+    JuzamboreAnswer::from(modem::decode_soft(&by, soft, octets, words))
 }
 
 #[unsafe(no_mangle)]
@@ -151,9 +200,6 @@ pub extern "C" fn juzambore_decode_readings(
     ensures decode_readings { DecodeReadings (kind_of kind) (pdus_of count modes.now lengths.now) counter a i.now q.now octets.old words.old result.refusal (outcome result.symbols result.n result.cost (eqb result.confirmed 1) result.comparisons octets.new words.new) }
     ensures flag { result.confirmed ≤ 1 }
 {
-    let kind = kind_of(kind);
-    let answer = modem::decode_readings(
-        kind, count, modes, lengths, counter, a, i, q, octets, words,
-    );
-    told(answer)
+    let by = described(kind, count, modes, lengths, counter, a);
+    JuzamboreAnswer::from(modem::decode_readings(&by, i, q, octets, words))
 }
