@@ -2,10 +2,9 @@
 -- of document 01's train.
 -- Assumes nothing.
 use mathlib.Core.Path.{◌≡◌, refl, sym, ◌∙◌, ap, ap₂}
-use mathlib.Core.Bool.{Bool, true, not}
+use mathlib.Core.Bool.{true, not}
 use mathlib.Core.List.{List}
-use Prim.Native.Nat.{ℕ, ◌-◌, ◌*◌, ◌≤◌, ◌<◌}
-use native.Mathlib.Nat.{sub-zero}
+use Prim.Native.Nat.{ℕ, ◌*◌, ◌≤◌, ◌<◌}
 use native.Mathlib.Omega.{arith}
 use lib.IntN.{ℤ}
 use lib.ListN.{length, get_or, take}
@@ -24,17 +23,13 @@ use Rattle.modes.proofs.RefusalLaws.{one_described, list_legal}
 use Rattle.modes.proofs.SizeLaws.{sent_within, symbols_of_within}
 use Rattle.modem.specs.Encode.{encode_refusal, Encode}
 use Rattle.modem.specs.Ideal.{Ideal}
-use Rattle.modem.specs.Decode.{outcome, DecodeReadings}
+use Rattle.modem.specs.Decode.{Outcome, outcome, DecodeReadings}
 use Rattle.modem.proofs.SizeLaws.{carriers_symbols}
 use Rattle.modem.proofs.LentLaws.{lent_passes}
-use Rattle.modem.proofs.ChainLaws.{chain_done}
+use Rattle.modem.proofs.ChainLaws.{chain_ideal, chain_done}
 use Rattle.modem.proofs.Demands.{demand_2_given_back}
 use Rattle.modem.proofs.One.{one_length, one_carriers, one_sent, one_encode, one_ideal, one_decode_readings}
 use Rattle.record.specs.Record.{Line, line, Run}
-
--- a part that the code takes from the start
-front : {A : Type 0} (n m : ℕ) (l : List A) → m ≡ n → take (m - 0) l ≡ take n l
-front n m l e = rw (sub-zero m, e)
 
 module _ (mode counter N a : ℕ) (passed : ladder (described mode counter N a) ≡ 0) (small : N ≤ 432) where
   zero : ladder (list_described (one mode N) counter a) ≡ 0
@@ -55,7 +50,7 @@ module _ (mode counter N a : ℕ) (passed : ladder (described mode counter N a) 
   few_carriers =
       omega (arith, one_carriers mode N, carriers_symbols (one mode N), symbols_of_within (one mode N) legal.fit.each, one_length mode N, small)
 
-  encoded_done : (octets sent₀ sent : List ℕ) (r : ℕ) → length octets ≡ octets_of N → length sent₀ ≡ 864 → Encode Data (one mode N) counter a octets sent₀ r sent
+  pub encoded_done : (octets sent₀ sent : List ℕ) (r : ℕ) → length octets ≡ octets_of N → length sent₀ ≡ 864 → Encode Data (one mode N) counter a octets sent₀ r sent
       → r ≡ 0
   unfolding Encode encode_refusal encode_described
   encoded_done octets sent₀ sent r whole room p =
@@ -79,23 +74,31 @@ module _ (mode counter N a : ℕ) (passed : ladder (described mode counter N a) 
     unfolding carriers
     made_carriers s e = ap (λ (k : ℕ). 48 * k) (e ∙ ap (λ (k : ℕ). symbols k N) same_mode)
 
+  -- the ideal readings are taken where the octets are encoded
+  pub taken_done : (octets sent₀ sent : List ℕ) (i₀ q₀ i q : List ℤ) (bits r₁ r₂ : ℕ) → length octets ≡ octets_of N
+      → length sent₀ ≡ 864 → length i₀ ≡ 864 → length q₀ ≡ 864 → bits ≡ sent_bits mode N
+      → Encode Data (one mode N) counter a octets sent₀ r₁ sent → Ideal (one mode N) (take bits sent) i₀ q₀ r₂ i q → r₂ ≡ 0
+  taken_done octets sent₀ sent i₀ q₀ i q bits r₁ r₂ whole hs hi hq eb p₁ p₂ =
+      let encoded : Encode Data (one mode N) counter a octets sent₀ 0 sent = rw (encoded_done octets sent₀ sent r₁ whole hs p₁) at p₁ in
+      (chain_ideal Data (one mode N) counter a octets sent₀ sent encoded i₀ q₀
+      (omega (arith, few_carriers, one_carriers mode N)) (omega (arith, few_carriers, one_carriers mode N)) r₂ i q
+      (rw (eb, ← one_sent mode N) at p₂)).0
+
   -- the three calls, one after the other: by demand 2 the other two are done where the first is
-  pub run_done : (octets sent₀ sent : List ℕ) (i₀ q₀ i q : List ℤ) (octets₀ words₀ octets' words' : List ℕ) (bits all r₁ r₂ r₃ s n cost : ℕ) (confirmed : Bool) (comparisons : ℕ)
+  pub run_done : (octets sent₀ sent : List ℕ) (i₀ q₀ i q : List ℤ) (octets₀ words₀ : List ℕ) (bits all r₁ r₂ r₃ : ℕ) (o : Outcome)
       → ((k : ℕ) → get_or octets k 0 < 256) → length octets ≡ octets_of N
       → length sent₀ ≡ 864 → length i₀ ≡ 864 → length q₀ ≡ 864 → length octets₀ ≡ 54 → length words₀ ≡ 438
       → bits ≡ sent_bits mode N → all ≡ carriers mode N
-      → Encode Data (one mode N) counter a octets sent₀ r₁ sent → Ideal (one mode N) (take (bits - 0) sent) i₀ q₀ r₂ i q
-      → DecodeReadings Data (one mode N) counter a (take (all - 0) i) (take (all - 0) q) octets₀ words₀ r₃ (outcome s n cost confirmed comparisons octets' words')
-      → (r₃ ≡ 0) × Run mode counter N a octets (line s n cost confirmed)
+      → Encode Data (one mode N) counter a octets sent₀ r₁ sent → Ideal (one mode N) (take bits sent) i₀ q₀ r₂ i q
+      → DecodeReadings Data (one mode N) counter a (take all i) (take all q) octets₀ words₀ r₃ o
+      → (r₃ ≡ 0) × Run mode counter N a octets (line o.symbols o.n o.cost o.confirmed)
   unfolding octets_of
-  run_done octets sent₀ sent i₀ q₀ i q octets₀ words₀ octets' words' bits all r₁ r₂ r₃ s n cost confirmed comparisons low whole hs hi hq ho hw eb ea p₁ p₂ p₃ =
+  run_done octets sent₀ sent i₀ q₀ i q octets₀ words₀ bits all r₁ r₂ r₃ o low whole hs hi hq ho hw eb ea p₁ p₂ p₃ =
       let encoded : Encode Data (one mode N) counter a octets sent₀ 0 sent = rw (encoded_done octets sent₀ sent r₁ whole hs p₁) at p₁ in
-      let taken : Ideal (one mode N) (take (sent_bits mode N) sent) i₀ q₀ r₂ i q = rw (front _ bits sent eb) at p₂ in
-      let decoded : DecodeReadings Data (one mode N) counter a (take (carriers mode N) i) (take (carriers mode N) q) octets₀ words₀ r₃ (outcome s n cost confirmed comparisons octets' words') =
-      rw (front _ all i ea, front _ all q ea) at p₃
-      in
+      let taken : Ideal (one mode N) (take (sent_bits mode N) sent) i₀ q₀ r₂ i q = rw eb at p₂ in
+      let decoded : DecodeReadings Data (one mode N) counter a (take (carriers mode N) i) (take (carriers mode N) q) octets₀ words₀ r₃ o = rw ea at p₃ in
       let n_is : length_of (one mode N) ≡ N = one_length mode N in
-      let (z₂, back) = demand_2_given_back Data (one mode N) counter counter a octets sent₀ sent i₀ q₀ i q octets₀ words₀ r₂ r₃ (outcome s n cost confirmed comparisons octets' words') low encoded
+      let (z₂, back) = demand_2_given_back Data (one mode N) counter counter a octets sent₀ sent i₀ q₀ i q octets₀ words₀ r₂ r₃ o low encoded
       (omega (arith, few_carriers, one_carriers mode N)) (omega (arith, few_carriers, one_carriers mode N))
       (rw (one_sent mode N) taken) (omega (arith, n_is)) (omega (arith, n_is)) refl (rw (one_carriers mode N) decoded)
       in (
@@ -109,12 +112,12 @@ module _ (mode counter N a : ℕ) (passed : ladder (described mode counter N a) 
           q = q;
           octets₀ = octets₀;
           words₀ = words₀;
-          octets' = octets';
-          words' = words';
-          comparisons = comparisons;
+          octets' = o.octets;
+          words' = o.words;
+          comparisons = o.comparisons;
           encoded = rw (← one_encode mode N a counter octets sent₀ 0 sent) encoded;
           taken = rw (← one_ideal mode N (take (sent_bits mode N) sent) i₀ q₀ 0 i q) (rw z₂ at taken);
-          decoded = rw (← one_decode_readings mode N a counter (take (carriers mode N) i) (take (carriers mode N) q) octets₀ words₀ 0 (outcome s n cost confirmed comparisons octets' words')) (rw back.done at decoded);
+          decoded = rw (← one_decode_readings mode N a counter (take (carriers mode N) i) (take (carriers mode N) q) octets₀ words₀ 0 o) (rw back.done at decoded);
         },
       )
 

@@ -3,118 +3,86 @@
 // and printing are not done here.
 #![tactic(auto)]
 
-ghost use Rattle.std.specs.Prelude.{◌≡◌, false, ◌≤◌, length};
+ghost use Rattle.std.specs.Prelude.{◌≡◌, ◌≤◌, length};
 ghost use Rattle.laws.specs.Ladder.{ladder};
 ghost use Rattle.modes.specs.Sizes.{octets_of};
 ghost use Rattle.modes.specs.Refusals.{described};
-ghost use Rattle.record.specs.Record.{two, line_refusal, line, Run, LineOf, mark_of};
+ghost use Rattle.modes.specs.Refusal.{answer_of};
+ghost use Rattle.record.specs.Record.{two, line_refusal, LineOf, mark_of};
+ghost use Rattle.record.specs.Said.{said, line_in, sure, Runs};
 
-use coder::wide;
-use modes::Kind;
+use modem::{Description, Kind, PduList, Refusal};
+use modes::{Mode, Pdu, Train};
 
-// What a line says: the record's refusal, and where that is 0 the symbols, the sent bits, the rounded cost and the mark.
-#[derive(Drop)]
+// What the line of a record says that is not refused: its symbols, the sent bits, the rounded cost and the mark.
+#[derive(Clone, Copy, Debug, PartialEq, Eq)]
 pub struct Line {
-    pub refusal: u32,
     pub symbols: u32,
     pub n: u32,
     pub cost: u32,
     pub confirmed: bool,
 }
 
-// Two bytes, high byte first.
-fn number(high: u8, low: u8) -> u32
-    ensures { result ≡ two high low }
+// A list of one PDU of data.
+fn described(mode: u32, counter: u32, n: u32, a: u32) -> Description
+    ensures { result ≡ said mode counter n a }
 {
-    256 * (high as u32) + (low as u32)
-}
-
-// Room for the sent bits of 432 bits, and for the octets, the readings and the working words.
-fn sent_room() -> [u8; 864]
-    ensures { length result ≡ 864 }
-{
-    [0; 864]
-}
-
-fn octets_room() -> [u8; 54]
-    ensures { length result ≡ 54 }
-{
-    [0; 54]
-}
-
-fn readings_room() -> [i16; 864]
-    ensures { length result ≡ 864 }
-{
-    [0; 864]
-}
-
-fn words_room() -> [u64; 438]
-    ensures { length result ≡ 438 }
-{
-    [0; 438]
+    Description {
+        kind: Kind::Data,
+        list: PduList {
+            count: 1,
+            modes: [mode; 16],
+            lengths: [n; 16],
+        },
+        counter,
+        a,
+    }
 }
 
 // What is tested before a record is encoded.
-fn refusal(mode: u32, counter: u32, n: u32, a: u32) -> u32
-    ensures { result ≡ line_refusal mode counter n a }
+#[tactic(auto, unfolding(laws::specs::Ladder::ladder))]
+fn tested(mode: u32, counter: u32, n: u32, a: u32) -> Result<(), Refusal>
+    ensures { answer_of result ≡ line_refusal mode counter n a }
 {
-    if mode < 1 {
-        return 1;
-    }
-    if 7 < mode {
-        return 1;
-    }
+    Mode::try_from(mode)?;
     if 15 < counter {
-        return 2;
+        return Err(Refusal::Counter);
     }
     if 432 < n {
-        return 3;
+        return Err(Refusal::Length);
     }
-    let modes = [mode; 16];
-    let lengths = [n; 16];
-    modes::refusal(Kind::Data, 1, &modes, &lengths, counter, a)
+    Train::described(&described(mode, counter, n, a))?;
+    Ok(())
 }
 
-// Encodes, takes ideal readings, decodes: a record of which all has been tested, as a list of one PDU of data.
+// Encodes, takes ideal readings, decodes: a record of which all has been tested. So none of the three calls is refused.
 fn run(mode: u32, counter: u32, n: u32, a: u32, octets: &[u8]) -> Line
-    requires { (ladder (described mode counter n a) ≡ 0) × (n ≤ 432) × (length octets.now ≡ octets_of n) }
-    ensures { (result.refusal ≡ 0) × Run mode counter n a octets.now (line result.symbols result.n result.cost result.confirmed) }
+    requires tested { (ladder (described mode counter n a) ≡ 0) × (n ≤ 432) }
+    requires octets_long { length octets.now ≡ octets_of n }
+    ensures { Runs mode counter n a octets.now result }
 {
-    let one = modes::mode_of(mode);
-    let bits = modes::sent_bits(one, n as usize);
-    let carriers = 48 * modes::symbols_of(one, n as usize);
-    let modes = [mode; 16];
-    let lengths = [n; 16];
-    let mut sent = sent_room();
-    modem::encode(
-        Kind::Data,
-        1,
-        &modes,
-        &lengths,
-        counter,
-        a,
-        octets,
-        &mut sent,
-    );
-    let mut i = readings_room();
-    let mut q = readings_room();
-    modem::ideal(1, &modes, &lengths, &sent[0..bits], &mut i, &mut q);
-    let mut back = octets_room();
-    let mut words = words_room();
+    let by = described(mode, counter, n, a);
+    let pdu = Pdu {
+        mode: modes::mode_of(mode),
+        n: n as usize,
+    };
+    let bits = pdu.sent_bits();
+    let carriers = 48 * pdu.symbols();
+    let mut sent = [0; 864];
+    modem::encode(&by, octets, &mut sent).unwrap();
+    let mut i = [0; 864];
+    let mut q = [0; 864];
+    modem::ideal(&by.list, &sent[..bits], &mut i, &mut q).unwrap();
+    let mut back = [0; 54];
+    let mut words = [0; 438];
     let answer = modem::decode_readings(
-        Kind::Data,
-        1,
-        &modes,
-        &lengths,
-        counter,
-        a,
-        &i[0..carriers],
-        &q[0..carriers],
+        &by,
+        &i[..carriers],
+        &q[..carriers],
         &mut back,
         &mut words,
-    );
+    ).unwrap();
     Line {
-        refusal: answer.refusal,
         symbols: answer.symbols,
         n: answer.n,
         cost: answer.cost,
@@ -122,45 +90,33 @@ fn run(mode: u32, counter: u32, n: u32, a: u32, octets: &[u8]) -> Line
     }
 }
 
-// What the line of a refused record says.
-pub fn refused(refusal: u32) -> Line
-    ensures { (result.refusal ≡ refusal) × (result.symbols ≡ 0) × (result.n ≡ 0) × (result.cost ≡ 0) × (result.confirmed ≡ false) }
+// Two bytes, high byte first.
+fn number(high: u8, low: u8) -> u32
+    ensures { result ≡ two high low }
 {
-    Line {
-        refusal,
-        symbols: 0,
-        n: 0,
-        cost: 0,
-        confirmed: false,
-    }
+    u32::from(u16::from_be_bytes([high, low]))
 }
 
-// What the line of a record says.
-pub fn line_of(bytes: &[u8; 60]) -> Line
-    ensures { LineOf bytes.now result.refusal (line result.symbols result.n result.cost result.confirmed) }
+// What the line of a record says, or what it is refused for.
+pub fn line_of(bytes: &[u8; 60]) -> Result<Line, Refusal>
+    ensures { LineOf bytes.now (answer_of result) (line_in result) }
 {
-    let mode = wide(bytes[0]);
-    let counter = wide(bytes[1]);
+    let mode = u32::from(bytes[0]);
+    let counter = u32::from(bytes[1]);
     let n = number(bytes[2], bytes[3]);
     let a = number(bytes[4], bytes[5]);
-    let no = refusal(mode, counter, n, a);
-    if no != 0 {
-        return refused(no);
-    }
+    tested(mode, counter, n, a)?;
     let end = 6 + (n as usize) / 8;
-    let all = &bytes[..];
-    run(mode, counter, n, a, &all[6..end])
+    Ok(run(mode, counter, n, a, &bytes[6..end]))
 }
 
 // The last letter of a line.
-pub fn mark_of(refusal: u32, confirmed: bool) -> u8
-    ensures { result ≡ mark_of refusal confirmed }
+pub fn mark_of(confirmed: Result<bool, Refusal>) -> u8
+    ensures { result ≡ mark_of (answer_of confirmed) (sure confirmed) }
 {
-    if refusal != 0 {
-        return b'-';
+    match confirmed {
+        Ok(true) => b'C',
+        Ok(false) => b'D',
+        Err(_) => b'-',
     }
-    if confirmed {
-        return b'C';
-    }
-    b'D'
 }
