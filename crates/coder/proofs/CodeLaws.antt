@@ -22,16 +22,14 @@ use Rattle.coder.proofs.TrainLaws.{input_at, input_bits}
 pub record Coding (N : ℕ) (octets : List ℕ) (from s₀ r₀ : ℕ) (l₀ l : List ℕ) (s r t : ℕ) : Type 0 where
   pub begun : from ≤ t
   pub scrambler : s ≡ shifted_by (t - from) s₀
-  pub seven_stages : s < 128
-  pub seven_bits : r < 128
   pub codes : CodesOn N octets from t s₀ r₀ r l₀ l
   pub long : length l ≡ length l₀
 
-pub coding_start : (N : ℕ) (octets l : List ℕ) (from s r : ℕ) → s < 128 → r < 128 → Coding N octets from s r l l s r from
+pub coding_start : (N : ℕ) (octets l : List ℕ) (from s r : ℕ) → Coding N octets from s r l l s r from
 unfolding shifted_by CodesOn
-coding_start N octets l from s r hs hr =
+coding_start N octets l from s r =
     let none : from - from ≡ 0 = omega arith in
-    record { begun = omega arith; scrambler = rw none refl; seven_stages = hs; seven_bits = hr; codes = λ first counter l₀ room gives er el. (er, el); long = refl }
+    record { begun = omega arith; scrambler = rw none refl; codes = λ first counter l₀ room gives er el. (er, el); long = refl }
 
 module _ (N : ℕ) (octets : List ℕ) (from s₀ r₀ : ℕ) (l₀ : List ℕ) where
   -- one pair more
@@ -56,8 +54,8 @@ module _ (N : ℕ) (octets : List ℕ) (from s₀ r₀ : ℕ) (l₀ : List ℕ) 
   pub coding_again : (l l' : List ℕ) (s s' r r' t bit : ℕ)
       → Coding N octets from s₀ r₀ l₀ l s r t
       → bit ≡ choose (ltb t N) ((bit_of octets t + output s) % 2) 0
-      → (s' ≡ shifted s) × (s' < 128)
-      → (r' ≡ entered r bit) × (r' < 128)
+      → s' ≡ shifted s
+      → r' ≡ entered r bit
       → l' ≡ set (set l (2 * t) (parity r' mask_x)) (2 * t + 1) (parity r' mask_y)
       → Coding N octets from s₀ r₀ l₀ l' s' r' (t + 1)
   coding_again l l' s s' r r' t bit c eb es er el =
@@ -65,10 +63,8 @@ module _ (N : ℕ) (octets : List ℕ) (from s₀ r₀ : ℕ) (l₀ : List ℕ) 
       let up : t + 1 - from ≡ suc (t - from) = omega arith in
       record {
         begun = omega arith;
-        scrambler = rw up (es.0 ∙ ap shifted c.scrambler ∙ (unfold shifted_by in refl));
-        seven_stages = es.1;
-        seven_bits = er.1;
-        codes = codes_again l l' s r r' t bit begun c.scrambler c.codes eb er.0 el;
+        scrambler = rw up (es ∙ ap shifted c.scrambler ∙ (unfold shifted_by in refl));
+        codes = codes_again l l' s r r' t bit begun c.scrambler c.codes eb er el;
         long = rw el (simp length-set c.long);
       }
 

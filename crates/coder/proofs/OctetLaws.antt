@@ -2,21 +2,20 @@
 -- Assumes nothing.
 use mathlib.Core.Path.{◌≡◌, refl, sym, ◌∙◌, ap}
 use mathlib.Core.List.{List}
-use Prim.Native.Nat.{ℕ, suc, ◌+◌, ◌-◌, ◌*◌, ◌/◌, ◌%◌, ◌^◌, ◌≤◌, ◌<◌}
+use Prim.Native.Nat.{ℕ, suc, ◌+◌, ◌-◌, ◌*◌, ◌/◌, ◌%◌, ◌^◌, ◌<◌}
 use native.Mathlib.Nat.{add-zero, pow-suc}
 use native.Mathlib.Numerals.{add-one}
 use native.Mathlib.Omega.{arith}
 use lib.ListN.{length, get_or, take, set, length-set}
-use lib.Pow.{pow_mono}
 use lib.Seq.{ext_get_or, get_or-take}
 use borrow.Author.Tests.{lt-ltb}
 use Rattle.laws.specs.Lists.{tabulate, filled}
 use Rattle.laws.specs.Packing.{written}
 use Rattle.laws.proofs.PackingLaws.{written_low, written_bit}
 use Rattle.laws.proofs.ListLaws.{tabulate_length, tabulate_at, filled_none, filled_put}
-use Rattle.coder.specs.Scrambler.{bit_of, state, mask, masked_bit, scrambled_from, Steps, descrambled_bit, octet_at}
+use Rattle.coder.specs.Scrambler.{bit_of, output, shifted, state_at, Rested, mask, masked_bit, scrambled_from, descrambled_bit, octet_at}
 use Rattle.coder.specs.Train.{Train}
-use Rattle.coder.proofs.ScramblerLaws.{state_start, mask_by, state_behind}
+use Rattle.coder.proofs.ScramblerLaws.{rested_start, output_mask, rested_next}
 
 descrambled_bit_lem : (first counter : ℕ) (w : List ℕ) (t : ℕ) → descrambled_bit first counter w t < 2
 unfolding descrambled_bit
@@ -61,53 +60,46 @@ scrambled_back first counter N w whole train =
 
 -- j bits of octet k are written
 pub record Writing (first counter : ℕ) (w : List ℕ) (k octet s j : ℕ) : Type 0 where
-  pub counts : j ≤ 8
-  pub scrambler : s ≡ state counter (8 * k + j - first)
-  pub seven_stages : s < 128
+  pub scrambler : Rested first counter (8 * k + j) s
   pub bits : octet ≡ written (descrambled_bit first counter w) (8 * k) j
   pub small : octet < 2 ^ j
-  pub one_octet : octet < 256
 
-pub writing_none : (first counter : ℕ) (w : List ℕ) (k s : ℕ) → s ≡ state counter (8 * k - first) → s < 128 → Writing first counter w k 0 s 0
+pub writing_none : (first counter : ℕ) (w : List ℕ) (k s : ℕ) → Rested first counter (8 * k) s → Writing first counter w k 0 s 0
 unfolding written
-writing_none first counter w k s e low = record { counts = omega arith; scrambler = rw (add-zero (8 * k)) e; seven_stages = low; bits = refl; small = omega arith; one_octet = omega arith }
+writing_none first counter w k s rested = record { scrambler = rw (add-zero (8 * k)) rested; bits = refl; small = omega arith }
 
-pub writing_again : (first counter : ℕ) (w : List ℕ) (k octet s s' m j : ℕ) → Writing first counter w k octet s j → j < 8
-    → Steps first (8 * k + j) s m s'
+pub writing_again : (first counter : ℕ) (w : List ℕ) (k octet s s' m j : ℕ) → Writing first counter w k octet s j
+    → m ≡ output (state_at first counter (8 * k + j))
+    → s' ≡ shifted (state_at first counter (8 * k + j))
     → Writing first counter w k (2 * octet + (get_or w (8 * k + j) 0 + m) % 2) s' (j + 1)
 unfolding written descrambled_bit
-writing_again first counter w k octet s s' m j h more step =
+writing_again first counter w k octet s s' m j h em es =
     let up : 8 * k + (j + 1) ≡ suc (8 * k + j) = omega arith in
-    let is_mask : m ≡ mask first counter (8 * k + j) = mask_by first counter (8 * k + j) s m h.scrambler step.mask_is in
-    let few : 2 ^ suc j ≤ 2 ^ 8 = pow_mono more in
+    let is_mask : m ≡ mask first counter (8 * k + j) = em ∙ output_mask first counter (8 * k + j) in
     record {
-      counts = omega arith;
-      scrambler = rw up (state_behind first counter (8 * k + j) s s' h.scrambler step.state_is);
-      seven_stages = step.state_low;
+      scrambler = rw (up, es) (rested_next first counter (8 * k + j));
       bits = rw (add-one j, is_mask, ← h.bits) refl;
       small = rw (add-one j, pow-suc 2 j) (omega (arith, h.small));
-      one_octet = omega (arith, h.small, few, pow-suc 2 j);
     }
 
 -- k octets stand in the buffer
 pub record Descrambling (first counter : ℕ) (w l₀ l : List ℕ) (s k : ℕ) : Type 0 where
-  pub scrambler : s ≡ state counter (8 * k - first)
-  pub seven_stages : s < 128
+  pub scrambler : Rested first counter (8 * k) s
   pub octets : l ≡ filled k (octet_at first counter w) l₀
   pub long : length l ≡ length l₀
 
-pub descrambling_none : (first counter : ℕ) (w l : List ℕ) → counter ≤ 15 → Descrambling first counter w l l (112 + counter) 0
-descrambling_none first counter w l h =
-    record { scrambler = state_start first counter; seven_stages = omega arith; octets = sym (filled_none (octet_at first counter w) l); long = refl }
+pub descrambling_none : (first counter : ℕ) (w l : List ℕ) → Descrambling first counter w l l 0 0
+descrambling_none first counter w l =
+    record { scrambler = rested_start first counter; octets = sym (filled_none (octet_at first counter w) l); long = refl }
 
 pub descrambling_again : (first counter : ℕ) (w l₀ l : List ℕ) (s s' octet k : ℕ) → Descrambling first counter w l₀ l s k → k < length l₀
-    → (octet ≡ octet_at first counter w k) × (s' ≡ state counter (8 * k + 8 - first)) × (s' < 128)
+    → octet ≡ octet_at first counter w k
+    → Rested first counter (8 * k + 8) s'
     → Descrambling first counter w l₀ (set l k octet) s' (k + 1)
-descrambling_again first counter w l₀ l s s' octet k h more (is, es, low) =
+descrambling_again first counter w l₀ l s s' octet k h more is rested =
     let e : 8 * (k + 1) ≡ 8 * k + 8 = omega arith in
     record {
-      scrambler = rw e es;
-      seven_stages = low;
+      scrambler = rw e rested;
       octets = filled_put k (octet_at first counter w) l₀ l octet h.octets is more;
       long = length-set l k octet ∙ h.long;
     }

@@ -1,6 +1,6 @@
 -- The scrambler where it is initialised at bit `first`: one turn, what goes unscrambled, and that from the first bit on it is document 01's.
 -- Assumes nothing.
-use mathlib.Core.Path.{◌≡◌, refl, ◌∙◌, ap}
+use mathlib.Core.Path.{◌≡◌, refl}
 use mathlib.Core.Bool.{Bool, true, false}
 use mathlib.Core.List.{List}
 use Prim.Native.Nat.{ℕ, suc, ◌+◌, ◌-◌, ◌%◌, ◌≤◌, ◌<◌}
@@ -10,31 +10,40 @@ use lib.Dec.{ltb}
 use borrow.Author.Tests.{ltb-true, ltb-false, lt-ltb, le-ltb}
 use Rattle.laws.specs.Lists.{choose}
 use Rattle.laws.proofs.ListLaws.{tabulate_ext}
-use Rattle.coder.specs.Scrambler.{bit_of, output, shifted, state, scrambled_bit, scrambled, mask, masked_bit, scrambled_from}
+use Rattle.coder.specs.Scrambler.{bit_of, output, shifted, state, state_at, Rested, scrambled_bit, scrambled, mask, masked_bit, scrambled_from}
 
--- the scrambler rests at its start
-pub state_start : (first counter : ℕ) → 112 + counter ≡ state counter (0 - first)
-unfolding state
-state_start first counter = let none : 0 - first ≡ 0 = omega arith in rw none refl
+-- the state at the first bit
+pub state_first : (first counter t : ℕ) → t ≡ first → 112 + counter ≡ state_at first counter t
+unfolding state_at state
+state_first first counter t e = let none : t - first ≡ 0 = omega arith in rw (le-ltb t first (omega arith), none) refl
 
--- the mask of bit t by the state that the scrambler is then in
-pub mask_by : (first counter t s m : ℕ) → s ≡ state counter (t - first) → m ≡ choose (ltb t first) 0 (output s) → m ≡ mask first counter t
-unfolding mask
-mask_by first counter t s m es em = em ∙ ap (λ (x : ℕ). choose (ltb t first) 0 (output x)) es
+-- before it the scrambler rests
+pub rested_start : (first counter : ℕ) → Rested first counter 0 0
+unfolding state_at
+rested_start first counter other = rw (lt-ltb 0 first (omega arith)) refl
+
+-- what bit t is xored with is the output
+pub output_mask : (first counter t : ℕ) → output (state_at first counter t) ≡ mask first counter t
+unfolding state_at mask
+output_mask first counter t = go (ltb t first)
+  where
+    go : (b : Bool) → output (choose b 0 (state counter (t - first))) ≡ choose b 0 (output (state counter (t - first)))
+    go true = refl
+    go false = refl
 
 -- and the state behind bit t
-pub state_behind : (first counter t s s' : ℕ) → s ≡ state counter (t - first) → s' ≡ choose (ltb t first) s (shifted s) → s' ≡ state counter (suc t - first)
-state_behind first counter t s s' es e = go (ltb t first) refl (e ∙ ap (λ (x : ℕ). choose (ltb t first) x (shifted x)) es)
+pub rested_next : (first counter t : ℕ) → Rested first counter (suc t) (shifted (state_at first counter t))
+unfolding state_at state
+rested_next first counter t other = go (ltb t first) refl
   where
-    go : (b : Bool) → ltb t first ≡ b → s' ≡ choose b (state counter (t - first)) (shifted (state counter (t - first))) → s' ≡ state counter (suc t - first)
-    go true h is =
+    go : (b : Bool) → ltb t first ≡ b → shifted (choose b 0 (state counter (t - first))) ≡ choose (ltb (suc t) first) 0 (state counter (suc t - first))
+    go true h =
         let early : t < first = ltb-true t first h in
-        let same : suc t - first ≡ t - first = omega arith in
-        rw same is
-    go false h is =
+        rw (lt-ltb (suc t) first (omega arith)) refl
+    go false h =
         let late : first ≤ t = ltb-false t first h in
         let up : suc t - first ≡ suc (t - first) = omega arith in
-        rw up (is ∙ (unfold state in refl))
+        rw (le-ltb (suc t) first (omega arith), up) refl
 
 -- the mask of the bits from the first on
 pub mask_behind : (first counter t : ℕ) → mask first counter (first + t) ≡ output (state counter t)

@@ -6,13 +6,13 @@
 --   shifted_by                 the same j times
 --   state                      the state when t bits have been scrambled
 --   scrambled                  the train's N bits, each xored with one output
+--   state_at, Rested           the same where it is initialised at bit `first` and rests before
 --   mask                       what bit t is xored with where the scrambler is initialised at bit `first`
 --   scrambled_from             the train's N bits, each xored with its mask
---   Steps                      one step of the scrambler
 --   descrambled_bit, octet_at  the way back: a scrambled train's bits descrambled, eight to an octet
 --   frame_counter              the number that the first four bits write
 -- Assumes nothing.
-use Rattle.std.specs.Prelude.{◌≡◌, ℕ, zero, suc, ◌+◌, ◌-◌, ◌*◌, ◌/◌, ◌%◌, ◌^◌, ◌<◌, List, ltb, get_or}
+use Rattle.std.specs.Prelude.{◌≡◌, ◌≢◌, ℕ, zero, suc, ◌+◌, ◌-◌, ◌*◌, ◌/◌, ◌%◌, ◌^◌, List, ltb, get_or}
 use Rattle.laws.specs.Lists.{choose, tabulate}
 use Rattle.laws.specs.Packing.{written}
 
@@ -42,6 +42,14 @@ unfoldable pub state : ℕ → ℕ → ℕ
 state counter zero = start counter
 state counter (suc t) = shifted (state counter t)
 
+-- the state at bit t where the scrambler is initialised at bit `first`: all zeros before, which give zeros and stay
+unfoldable pub state_at : (first counter : ℕ) → ℕ → ℕ
+state_at first counter t = choose (ltb t first) 0 (state counter (t - first))
+
+-- the state that comes to bit t, where it is initialised if that is bit `first`
+abbrev pub Rested : (first counter : ℕ) → ℕ → ℕ → Type 0
+Rested first counter t s = t ≢ first → s ≡ state_at first counter t
+
 -- one bit xored with one output
 unfoldable pub scrambled_bit : ℕ → List ℕ → ℕ → ℕ
 scrambled_bit counter octets t = (bit_of octets t + output (state counter t)) % 2
@@ -61,13 +69,6 @@ masked_bit first counter octets t = (bit_of octets t + mask first counter t) % 2
 -- the train's N bits, scrambled from bit `first` on
 unfoldable pub scrambled_from : (first counter N : ℕ) → List ℕ → List ℕ
 scrambled_from first counter N octets = tabulate N (masked_bit first counter octets)
-
--- at bit t in state s: the mask, and the state behind the bit. The scrambler rests before its first bit
-pub record Steps (first t s m s' : ℕ) : Type 0 where
-  pub mask_is : m ≡ choose (ltb t first) 0 (output s)
-  pub mask_low : m < 2
-  pub state_is : s' ≡ choose (ltb t first) s (shifted s)
-  pub state_low : s' < 128
 
 -- one bit of a scrambled train xored with the same mask: descrambling is the same
 unfoldable pub descrambled_bit : (first counter : ℕ) → List ℕ → ℕ → ℕ

@@ -23,10 +23,10 @@ module _ (ps : List Pdu) (a : ℕ) (each : EachFit ps) (inside : a + 72 ≤ leng
   in_soft_bytes : SoftBytes heard
   in_soft_bytes = spread_soft ps a each inside soft heard k spread (λ q _. all_heard soft in_range q) in_range
 
-  pub search_spread_lem : (words₀ xs ys words costs : List ℕ) (total t : ℕ) → Forward (length_of ps) heard words₀ xs ys words costs total t
+  pub search_spread_lem : (words₀ words costs : List ℕ) (total t : ℕ) → Forward (length_of ps) heard words₀ words costs total t
       → InOrder (first heard) 160 search_spread (length_of ps) t costs
   search_spread_lem = search_in_order heard in_soft_bytes (length_of ps)
 
-  pub mark_spread_lem : (w xs ys costs : List ℕ) (r t : ℕ) → Marking (length_of ps) heard w xs ys costs r t
+  pub mark_spread_lem : (w costs : List ℕ) (r t : ℕ) → Marking (length_of ps) heard w costs r t
       → InOrder (second heard w) 322 mark_spread (length_of ps) t costs
   mark_spread_lem = mark_in_order heard in_soft_bytes (length_of ps)

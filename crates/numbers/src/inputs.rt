@@ -1,23 +1,20 @@
 // The command `inputs`: the octets, which are all of the train, through the scrambler, and the zeros behind them.
-ghost use Rattle.std.specs.Prelude.{◌<◌, ◌≤◌, length};
+ghost use Rattle.std.specs.Prelude.{◌≤◌, length};
 
 use crate::{bytes, shown, words};
+use coder::Scrambler;
 use modes::Kind;
 use shown::MARK;
 use std::io;
 use words::Field;
 
-// Puts the inputs of the encoder from `from` up to `end` in their places, in the scrambler's state s.
-fn fill(from: usize, end: usize, s: u32, octets: &[u8], inputs: &mut [u8])
-    requires { (from ≤ end) × (end ≤ length inputs.old) × (s < 128) × (length octets.now ≤ 14000) }
+// Puts the inputs of the encoder from `from` up to `end` in their places, with the scrambler as it is then.
+fn fill(from: usize, end: usize, mut scrambler: Scrambler, octets: &[u8], inputs: &mut [u8])
+    requires { (from ≤ end) × (end ≤ length inputs.old) × (length octets.now ≤ 14000) }
 {
     let n = 8 * octets.len();
-    let mut s = s;
-    let mut t = from;
-    while t < end {
-        inputs[t] = coder::input_bit(octets, n, t, s) as u8;
-        s = coder::shifted_from(s);
-        t += 1;
+    for t in from..end {
+        inputs[t] = coder::input_bit(octets, n, t, scrambler.step()) as u8;
     }
 }
 
@@ -39,8 +36,8 @@ fn show_inputs(
     let first = modes::first_scrambled(kind);
     let many = inputs.len();
     let plain = smaller(first, many);
-    fill(0, plain, 0, octets, inputs);
-    fill(plain, many, 112 + counter, octets, inputs);
+    fill(0, plain, Scrambler::resting(), octets, inputs);
+    fill(plain, many, Scrambler::started(counter), octets, inputs);
     shown::digits(rt, inputs)
 }
 

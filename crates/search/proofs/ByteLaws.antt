@@ -1,6 +1,6 @@
 -- What a byte costs, case by case, and that a step costs as its bytes say.
 -- Assumes nothing.
-use Rattle.std.proofs.Common.{◌≡◌, ℕ, zero, suc, ◌+◌, ◌-◌, ◌*◌, ◌<◌, ◌≤◌, Bool, true, false, eqb, ◌≢◌, ◌⊎◌, List, get_or, refl, ap₂, inl, inr, arith, ne_eqb, eqb-true}
+use Rattle.std.proofs.Common.{◌≡◌, ℕ, zero, suc, ◌+◌, ◌-◌, ◌*◌, ◌<◌, ◌≤◌, Bool, true, false, eqb, ◌⊎◌, List, get_or, refl, ap₂, inl, inr, arith}
 use borrow.Author.Tests.{eqb-false}
 use Rattle.laws.specs.Lists.{choose}
 use Rattle.coder.specs.Encoder.{tailed}
@@ -12,22 +12,6 @@ use Rattle.trellis.specs.Heard.{branch, mark_cost}
 use Rattle.search.specs.Stored.{paired}
 use Rattle.search.specs.Bytes.{byte_cost, byte_heard, agreeing, Costs, cost_of, heard_of}
 use Rattle.search.specs.Spread.{SoftBytes}
-
-pub cost_0 : (byte : ℕ) → byte_cost byte 0 ≡ byte - 128
-unfolding byte_cost
-cost_0 byte = go (eqb byte 0) refl
-  where
-    go : (e : Bool) → eqb byte 0 ≡ e → choose e 0 (byte - 128) ≡ byte - 128
-    go true e = omega (arith, eqb-true byte 0 e)
-    go false e = refl
-
-pub cost_1_none : (byte : ℕ) → byte ≡ 0 → byte_cost byte 1 ≡ 0
-unfolding byte_cost
-cost_1_none byte e = rw e refl
-
-pub cost_1_heard : (byte : ℕ) → byte ≢ 0 → byte_cost byte 1 ≡ 128 - byte
-unfolding byte_cost
-cost_1_heard byte h = rw (ne_eqb byte 0 h) refl
 
 byte_most : (byte bit : ℕ) → byte < 256 → byte_cost byte bit ≤ 127
 unfolding byte_cost
@@ -65,14 +49,6 @@ heard_most byte z = go z (eqb byte 0)
     go true true = omega arith
     go true false = omega arith
     go false y = omega arith
-
-pub heard_none : (byte : ℕ) → byte ≡ 0 → byte_heard byte ≡ 0
-unfolding byte_heard
-heard_none byte e = rw e refl
-
-pub heard_some : (byte : ℕ) → byte ≢ 0 → byte_heard byte ≡ 1
-unfolding byte_heard
-heard_some byte h = rw (ne_eqb byte 0 h) refl
 
 -- where the two coded bits of a step cost as x and y say, a register costs what its coded bits do
 pub paired_costs : (x y : ℕ → ℕ) (x0 x1 y0 y1 : ℕ) → Costs x y x0 x1 y0 y1 → (r : ℕ)

@@ -9,7 +9,7 @@ use Rattle.coder.specs.Register.{parity, mask_x, mask_y}
 use Rattle.trellis.specs.Heard.{branch}
 use Rattle.trellis.specs.Passes.{best, choice}
 use Rattle.trellis.proofs.SpreadLaws.{best_most}
-use Rattle.search.specs.Stored.{half, start, wrapped, Near, top, paired, gap_at, cost_at, Masks, Stored}
+use Rattle.search.specs.Stored.{half, start, wrapped, Near, top, paired, gap_at, cost_at, Stored}
 use Rattle.search.specs.Bytes.{byte_cost, cost_of, Costs}
 use Rattle.search.specs.Words.{seat}
 use Rattle.search.proofs.ByteLaws.{cost_most, branch_heard}
@@ -28,41 +28,37 @@ pub first_most : (heard : List ℕ) → ((m : ℕ) → get_or heard m 0 < 256) �
 first_most heard bytes = first_within heard 127 (cost_most heard bytes)
 
 -- t steps are done
-pub record Forward (n : ℕ) (heard words₀ xs ys words costs : List ℕ) (total t : ℕ) : Type 0 where
+pub record Forward (n : ℕ) (heard words₀ words costs : List ℕ) (total t : ℕ) : Type 0 where
   pub counted : t ≤ n + 6
   pub range : n ≤ 3472
   pub room : n + 6 ≤ length words₀
   pub bytes : (m : ℕ) → get_or heard m 0 < 256
-  pub x_masks : Masks mask_x xs
-  pub y_masks : Masks mask_y ys
   pub held : Stored (λ s. wrapped (best (first heard) start t s)) costs
   pub exact : total ≡ best (first heard) start t 0
   pub decided : words ≡ filled t (λ k. packed 64 (λ p. choice (first heard) start k (seat p))) words₀
   pub long : length words ≡ length words₀
 
-pub forward_start : (n : ℕ) (heard words xs ys costs : List ℕ) → n ≤ 3472 → n + 6 ≤ length words → ((m : ℕ) → get_or heard m 0 < 256)
-    → Masks mask_x xs → Masks mask_y ys → Stored (λ s. choose (eqb s 0) 0 start) costs → Forward n heard words xs ys words costs 0 0
+pub forward_start : (n : ℕ) (heard words costs : List ℕ) → n ≤ 3472 → n + 6 ≤ length words → ((m : ℕ) → get_or heard m 0 < 256)
+    → Stored (λ s. choose (eqb s 0) 0 start) costs → Forward n heard words words costs 0 0
 unfolding best
-forward_start n heard words xs ys costs range room bytes x_masks y_masks started = record {
+forward_start n heard words costs range room bytes started = record {
   counted = omega arith;
   range = range;
   room = room;
   bytes = bytes;
-  x_masks = x_masks;
-  y_masks = y_masks;
   held = turn_none (first heard) costs started;
   exact = refl;
   decided = sym (filled_none _ words);
   long = refl;
 }
 
-module _ (n : ℕ) (heard words₀ xs ys : List ℕ) where
+module _ (n : ℕ) (heard words₀ : List ℕ) where
   -- the total is far below what 32 bits hold
-  pub forward_low : (words costs : List ℕ) (total t : ℕ) → Forward n heard words₀ xs ys words costs total t → total ≤ 4294901760
+  pub forward_low : (words costs : List ℕ) (total t : ℕ) → Forward n heard words₀ words costs total t → total ≤ 4294901760
   forward_low words costs total t f =
       omega (arith, f.counted, f.range, f.exact, best_most (first heard) start 254 (first_most heard f.bytes) t, mul-le-mul_right 254 f.counted)
 
-  module _ (words costs : List ℕ) (total t x0 x1 y0 y1 : ℕ) (costs' : List ℕ) (f : Forward n heard words₀ xs ys words costs total t)
+  module _ (words costs : List ℕ) (total t x0 x1 y0 y1 : ℕ) (costs' : List ℕ) (f : Forward n heard words₀ words costs total t)
       (pair : Costs (byte_cost (get_or heard (2 * t) 0)) (byte_cost (get_or heard (2 * t + 1) 0)) x0 x1 y0 y1)
       (stored : Stored (cost_at costs (paired x0 x1 y0 y1)) costs') where
     abbrev most : (k r : ℕ) → first heard k r ≤ 254
@@ -81,7 +77,7 @@ module _ (n : ℕ) (heard words₀ xs ys : List ℕ) where
     pub forward_again : (total' word : ℕ) → t < n + 6
         → total' ≡ best (first heard) start (suc t) 0
         → word ≡ packed 64 (λ p. top (gap_at costs (paired x0 x1 y0 y1) (seat p)))
-        → Forward n heard words₀ xs ys (set words t word) costs' total' (t + 1)
+        → Forward n heard words₀ (set words t word) costs' total' (t + 1)
     forward_again total' word more moved ew =
         let same = branch_heard heard t x0 x1 y0 y1 pair in
         let bits = turn_word (first heard) 254 most tight t costs (paired x0 x1 y0 y1) same f.held in
@@ -91,15 +87,13 @@ module _ (n : ℕ) (heard words₀ xs ys : List ℕ) where
           range = f.range;
           room = f.room;
           bytes = f.bytes;
-          x_masks = f.x_masks;
-          y_masks = f.y_masks;
           held = rw (add-one t) next;
           exact = rw (add-one t) moved;
           decided = filled_put t (λ k. packed 64 (λ p. choice (first heard) start k (seat p))) words₀ words word f.decided is_word (omega (arith, f.room));
           long = simp length-set f.long;
         }
 
-  module _ (words costs : List ℕ) (total t : ℕ) (f : Forward n heard words₀ xs ys words costs total t) (h : n + 6 ≤ t) where
+  module _ (words costs : List ℕ) (total t : ℕ) (f : Forward n heard words₀ words costs total t) (h : n + 6 ≤ t) where
     all_done : t ≡ n + 6
     all_done = omega (arith, f.counted)
 

@@ -1,6 +1,6 @@
 -- The second pass: after t steps the stored costs are the best ones, and the way of the train was clear so far.
 -- Assumes nothing.
-use Rattle.std.proofs.Common.{◌≡◌, ℕ, suc, ◌+◌, ◌-◌, ◌*◌, ◌/◌, ◌%◌, ◌<◌, ◌≤◌, Bool, true, false, eqb, ltb, List, length, get_or, take, sym, refl, ◌∙◌, ap₂, add-one, arith, length-take, get_or-take, ltb-false, ltb-true, lt-ltb}
+use Rattle.std.proofs.Common.{◌≡◌, ℕ, suc, ◌+◌, ◌-◌, ◌*◌, ◌/◌, ◌%◌, ◌<◌, ◌≤◌, Bool, true, false, eqb, ltb, List, length, get_or, take, sym, refl, ◌∙◌, ap₂, add-one, arith, get_or-take, ltb-false, ltb-true, lt-ltb}
 use mathlib.Core.Bool.{false≢true}
 use Rattle.laws.specs.Lists.{choose}
 use Rattle.coder.specs.Encoder.{tailed, coded}
@@ -11,7 +11,7 @@ use Rattle.trellis.specs.Heard.{branch, mark_cost, train_cost, differing}
 use Rattle.trellis.specs.Passes.{candidate, best, Clear}
 use Rattle.trellis.specs.Wanted.{Confirmed}
 use Rattle.trellis.proofs.MarkLaws.{clear_confirmed, confirmed_clear}
-use Rattle.search.specs.Stored.{start, wrapped, paired, gap_at, cost_at, above, Masks, Stored}
+use Rattle.search.specs.Stored.{start, wrapped, paired, gap_at, cost_at, above, Stored}
 use Rattle.search.specs.Bytes.{cost_of, heard_of, agreeing, Costs}
 use Rattle.search.specs.Promises.{Marked}
 use Rattle.search.proofs.ByteLaws.{cost_most, heard_most, branch_agreeing}
@@ -35,37 +35,27 @@ pub second_most : (heard w : List ℕ) → ((m : ℕ) → get_or heard m 0 < 256
 second_most heard w bytes = second_within heard w 127 (cost_most heard bytes)
 
 -- t steps are done
-pub record Marking (n : ℕ) (heard w xs ys costs : List ℕ) (r t : ℕ) : Type 0 where
+pub record Marking (n : ℕ) (heard w costs : List ℕ) (r t : ℕ) : Type 0 where
   pub counted : t ≤ n + 6
   pub most : n ≤ 3472
   pub bytes : (m : ℕ) → get_or heard m 0 < 256
   pub train : Train n w
-  pub x_masks : Masks mask_x xs
-  pub y_masks : Masks mask_y ys
   pub held : Stored (λ s. wrapped (best (second heard w) start t s)) costs
   pub inputs : r ≡ register (tailed w) t
-  pub seven_bits : r < 128
   pub clear : Clear (second heard w) start (tailed w) t
 
-pub marking_start : (n : ℕ) (heard w xs ys costs : List ℕ) → n ≤ 3472 → ((m : ℕ) → get_or heard m 0 < 256) → Train n w → Masks mask_x xs → Masks mask_y ys
-    → Stored (λ s. choose (eqb s 0) 0 start) costs → Marking n heard w xs ys costs 0 0
+pub marking_start : (n : ℕ) (heard w costs : List ℕ) → n ≤ 3472 → ((m : ℕ) → get_or heard m 0 < 256) → Train n w
+    → Stored (λ s. choose (eqb s 0) 0 start) costs → Marking n heard w costs 0 0
 unfolding register Clear
-marking_start n heard w xs ys costs most bytes train x_masks y_masks started = record {
+marking_start n heard w costs most bytes train started = record {
   counted = omega arith;
   most = most;
   bytes = bytes;
   train = train;
-  x_masks = x_masks;
-  y_masks = y_masks;
   held = turn_none _ costs started;
   inputs = refl;
-  seven_bits = omega arith;
   clear = λ t h. absurd (omega arith);
 }
-
--- the train has its n bytes
-pub train_long : (n : ℕ) (train : List ℕ) → Train n (take n train) → n ≤ length train
-train_long n train t = omega (arith, simp length-take at t.count)
 
 -- input t of the encoder
 pub input_is : (n t : ℕ) (train : List ℕ) → Train n (take n train) → choose (ltb t n) (get_or train t 0) 0 ≡ get_or (tailed (take n train)) t 0
@@ -84,8 +74,8 @@ pub input_bit : (n t x : ℕ) (train : List ℕ) → Train n (take n train) → 
 input_bit n t x train whole e = omega (arith, e ∙ input_is n t train whole, tailed_bits whole t)
 
 -- one step: what the register is, and whether the other way is strictly above
-module _ (n : ℕ) (heard w xs ys costs : List ℕ) (r t : ℕ) (m : Marking n heard w xs ys costs r t) (more : t < n + 6)
-    (x r' x0 x1 y0 y1 : ℕ) (costs' gaps : List ℕ) (is_input : x ≡ get_or (tailed w) t 0) (after : (r' ≡ entered r x) × (r' < 128))
+module _ (n : ℕ) (heard w costs : List ℕ) (r t : ℕ) (m : Marking n heard w costs r t) (more : t < n + 6)
+    (x r' x0 x1 y0 y1 : ℕ) (costs' gaps : List ℕ) (is_input : x ≡ get_or (tailed w) t 0) (after : r' ≡ entered r x) (low : r' < 128)
     (pair : Costs (agreeing (get_or heard (2 * t) 0) (parity r' mask_x)) (agreeing (get_or heard (2 * t + 1) 0) (parity r' mask_y)) x0 x1 y0 y1)
     (stored : Stored (cost_at costs (paired x0 x1 y0 y1)) costs') (compared : Stored (gap_at costs (paired x0 x1 y0 y1)) gaps) where
   abbrev own : ℕ
@@ -96,7 +86,7 @@ module _ (n : ℕ) (heard w xs ys costs : List ℕ) (r t : ℕ) (m : Marking n h
 
   is_register : r' ≡ register (tailed w) (suc t)
   unfolding register
-  is_register = after.0 ∙ ap₂ entered m.inputs is_input
+  is_register = after ∙ ap₂ entered m.inputs is_input
 
   same : (q : ℕ) → paired x0 x1 y0 y1 q ≡ second heard w t q
   same = branch_agreeing heard w m.train t x0 x1 y0 y1 (rw is_register at pair)
@@ -104,21 +94,18 @@ module _ (n : ℕ) (heard w xs ys costs : List ℕ) (r t : ℕ) (m : Marking n h
   tells : above (get_or gaps (r' / 2) 0) (r' % 2) ≡ ltb own other
   tells =
       turn_above (second heard w) 510 (second_most heard w m.bytes) (omega arith) t costs (paired x0 x1 y0 y1) same m.held gaps compared
-      (r' / 2) (r' % 2) (omega (arith, after.1)) (omega arith)
+      (r' / 2) (r' % 2) (omega arith) (omega arith)
 
-  pub marking_again : above (get_or gaps (r' / 2) 0) (r' % 2) ≡ true → Marking n heard w xs ys costs' r' (t + 1)
+  pub marking_again : above (get_or gaps (r' / 2) 0) (r' % 2) ≡ true → Marking n heard w costs' r' (t + 1)
   unfolding Clear
   marking_again e = record {
     counted = omega arith;
     most = m.most;
     bytes = m.bytes;
     train = m.train;
-    x_masks = m.x_masks;
-    y_masks = m.y_masks;
     held = rw (add-one t)
         (turn_costs (second heard w) 510 (second_most heard w m.bytes) (omega arith) t costs (paired x0 x1 y0 y1) same m.held costs' stored);
     inputs = rw (add-one t) is_register;
-    seven_bits = after.1;
     clear = λ k h. at k h (ltb k t) refl;
   }
     where
@@ -144,8 +131,8 @@ module _ (n : ℕ) (heard w xs ys costs : List ℕ) (r t : ℕ) (m : Marking n h
       sure confirmed =
           confirmed_clear (cost_of heard) (heard_of heard) n w start 510 (second_most heard w m.bytes) (omega arith) m.train confirmed
 
-pub marked_so : (n : ℕ) (heard w xs ys costs : List ℕ) (r t : ℕ) → Marking n heard w xs ys costs r t → n + 6 ≤ t → Marked n heard w true
-marked_so n heard w xs ys costs r t m h =
+pub marked_so : (n : ℕ) (heard w costs : List ℕ) (r t : ℕ) → Marking n heard w costs r t → n + 6 ≤ t → Marked n heard w true
+marked_so n heard w costs r t m h =
     let e : t ≡ n + 6 = omega (arith, m.counted) in
     record {
       only_then = λ _. clear_confirmed (cost_of heard) (heard_of heard) n w start m.train (rw e at m.clear);

@@ -45,13 +45,13 @@ module _ (b : ℕ → ℕ → ℕ) (M : ℕ) (most : (t r : ℕ) → b t r ≤ M
 
 module _ (heard : List ℕ) (soft : SoftBytes heard) where
   -- in the search, after each of its steps
-  pub search_in_order : (n : ℕ) (words₀ xs ys words costs : List ℕ) (total t : ℕ) → Forward n heard words₀ xs ys words costs total t
+  pub search_in_order : (n : ℕ) (words₀ words costs : List ℕ) (total t : ℕ) → Forward n heard words₀ words costs total t
       → InOrder (first heard) 160 search_spread n t costs
-  search_in_order n words₀ xs ys words costs total t f =
+  search_in_order n words₀ words costs total t f =
       in_order (first heard) 160 (first_within heard 80 (cost_soft heard soft)) (omega arith) search_spread n t costs (omega arith) (omega arith) f.held
 
   -- in the mark's pass, after each of its steps
-  pub mark_in_order : (n : ℕ) (w xs ys costs : List ℕ) (r t : ℕ) → Marking n heard w xs ys costs r t
+  pub mark_in_order : (n : ℕ) (w costs : List ℕ) (r t : ℕ) → Marking n heard w costs r t
       → InOrder (second heard w) 322 mark_spread n t costs
-  mark_in_order n w xs ys costs r t m =
+  mark_in_order n w costs r t m =
       in_order (second heard w) 322 (second_within heard w 80 (cost_soft heard soft)) (omega arith) mark_spread n t costs (omega arith) (omega arith) m.held

@@ -1,15 +1,12 @@
 -- One step on stored costs: masks choose a branch cost, one branch cost and its complement serve four ways, and a step's entries
 -- come two at a time. Assumes nothing.
-use Rattle.std.proofs.Common.{◌≡◌, ℕ, zero, suc, ◌+◌, ◌-◌, ◌*◌, ◌/◌, ◌%◌, ◌<◌, ◌≤◌, Bool, true, false, T, eqb, ltb, List, [], length, get_or, set, sym, refl, ap, ◌∙◌, ap₂, arith, eqb→eq, length-set, ltb-false, ltb-true}
-use lib.Bits.{bit_and, and_zero_r, and_mask}
+use Rattle.std.proofs.Common.{◌≡◌, ℕ, zero, suc, ◌+◌, ◌-◌, ◌*◌, ◌<◌, ◌≤◌, Bool, true, false, T, eqb, List, [], length, get_or, sym, refl, ap, ◌∙◌, ap₂, arith, eqb→eq}
 use lib.Count.{ones, ones_in}
 use Rattle.laws.specs.Lists.{choose}
-use Rattle.laws.proofs.ListLaws.{after_set}
 use Rattle.laws.proofs.Tables.{below, below_at, strays, table_rule, both, both_left, both_right}
 use Rattle.coder.specs.Register.{parity, mask_x, mask_y}
 use Rattle.trellis.specs.Passes.{via, before}
-use Rattle.search.specs.Stored.{width, half, wrapped, gap, top, lesser, paired, way, gap_at, cost_at, Crossed, Entered, Small, mask_at, Stored}
-use Rattle.search.specs.Words.{four_bits, Chosen}
+use Rattle.search.specs.Stored.{width, wrapped, gap, lesser, paired, way, gap_at, cost_at, Crossed, Entered, Small, mask_at, Stored}
 
 -- a list that is written out
 pub stored_by : (f : ℕ → ℕ) (l : List ℕ) → length l ≡ 64 → strays f 0 l ≡ [] → Stored f l
@@ -19,13 +16,6 @@ pub mask_is : (p : ℕ) → p < 2 → wrapped (0 + (width - p)) ≡ choose (eqb 
 mask_is zero h = refl
 mask_is (suc zero) h = refl
 mask_is (suc (suc p)) h = absurd (omega arith)
-
--- no ones leave the first cost, all ones lead to the second
-pub masked_0 : (c0 d mask : ℕ) → c0 < width → mask ≡ 0 → wrapped (c0 + bit_and d mask) ≡ c0
-masked_0 c0 d mask h e = rw (e, and_zero_r d) (omega arith)
-
-pub masked_1 : (c0 c1 mask : ℕ) → c0 < width → c1 < width → mask ≡ width - 1 → wrapped (c0 + bit_and (wrapped (c1 + (width - c0))) mask) ≡ c1
-masked_1 c0 c1 mask h0 h1 e = rw (e, and_mask (wrapped (c1 + (width - c0))) 16) (omega arith)
 
 -- what x is by a mask that is no ones or all ones
 abbrev pub Masked : ℕ → ℕ → ℕ → ℕ → Type 0
@@ -58,15 +48,6 @@ pub branch_by : (x0 x1 y0 y1 x_mask y_mask x y a : ℕ) → Small x0 x1 y0 y1 �
 branch_by x0 x1 y0 y1 x_mask y_mask x y a small by_x by_y e r ex ey =
     let sum : x + y ≡ paired x0 x1 y0 y1 r = unfold paired in ap₂ ◌+◌ (masked_by mask_x x0 x1 x_mask r x by_x ex) (masked_by mask_y y0 y1 y_mask r y by_y ey) in
     omega (arith, paired_most x0 x1 y0 y1 small r)
-
--- the lesser by the two cases of a gap
-pub lesser_by : (x g r : ℕ) → (g < half → r ≡ x) × (half ≤ g → r ≡ wrapped (x + g)) → r ≡ lesser x g
-unfolding lesser
-lesser_by x g r by = go (ltb g half) refl
-  where
-    go : (z : Bool) → ltb g half ≡ z → r ≡ choose z x (wrapped (x + g))
-    go true e = by.0 (ltb-true g half e)
-    go false e = by.1 (ltb-false g half e)
 
 -- both polynomials have lags 0 and 6: either turns the coded bit over, and both together leave it
 abbrev crossing : ℕ → ℕ → Bool
@@ -133,64 +114,6 @@ unfolding mask_at ones ones_in
 mask_x_lem j h =
     let same : parity (2 * j) mask_x ≡ parity (2 * (j + 16)) mask_x = eqb→eq _ _ (below_at same_x 16 tt j h) in
     ap (λ (p : ℕ). choose (eqb p 0) 0 (width - 1)) same
-
--- the entries i, i + 16, i + 32 and i + 48 are made for each i below j
-pub record Quarters (f : ℕ → ℕ) (j : ℕ) (l : List ℕ) : Type 0 where
-  pub all : length l ≡ 64
-  pub made : (i q : ℕ) → i < j → q < 4 → get_or l (i + 16 * q) 0 ≡ f (i + 16 * q)
-
-pub quarters_none : (f : ℕ → ℕ) (l : List ℕ) → length l ≡ 64 → Quarters f 0 l
-quarters_none f l all = record { all = all; made = λ i q h hq. absurd (omega arith) }
-
-pub quarters_again : (f : ℕ → ℕ) (j : ℕ) (l l' : List ℕ) (u0 u1 u2 u3 : ℕ) → Quarters f j l → j < 16
-    → l' ≡ set (set (set (set l j u0) (j + 16) u1) (j + 32) u2) (j + 48) u3
-    → u0 ≡ f j → u1 ≡ f (j + 16) → u2 ≡ f (j + 32) → u3 ≡ f (j + 16 + 32)
-    → Quarters f (j + 1) l'
-quarters_again f j l l' u0 u1 u2 u3 quarters h put e0 e1 e2 e3 = rw put (record { all = simp length-set quarters.all; made = made })
-  where
-    up : j + 16 + 32 ≡ j + 48
-    up = omega arith
-
-    inside : (k : ℕ) → k < 64 → k < length l
-    inside k low = omega (arith, quarters.all)
-
-    made : (i q : ℕ) → i < j + 1 → q < 4 → get_or (set (set (set (set l j u0) (j + 16) u1) (j + 32) u2) (j + 48) u3) (i + 16 * q) 0 ≡ f (i + 16 * q)
-    made i q hi hq =
-        after_set (set (set (set l j u0) (j + 16) u1) (j + 32) u2) (j + 48) u3 (i + 16 * q) 0 _ (simp length-set (inside (j + 48) (omega arith))) (λ same. rw (same, ← up) e3)
-        (λ not_3. after_set (set (set l j u0) (j + 16) u1) (j + 32) u2 (i + 16 * q) 0 _ (simp length-set (inside (j + 32) (omega arith))) (λ same. rw same e2)
-        (λ not_2. after_set (set l j u0) (j + 16) u1 (i + 16 * q) 0 _ (simp length-set (inside (j + 16) (omega arith))) (λ same. rw same e1)
-        (λ not_1. after_set l j u0 (i + 16 * q) 0 _ (inside j (omega arith)) (λ same. rw same e0)
-        (λ not_0. quarters.made i q (omega arith) hq))))
-
-pub quarters_all : (f : ℕ → ℕ) (j : ℕ) (l : List ℕ) → Quarters f j l → 16 ≤ j → Stored f l
-quarters_all f j l quarters h =
-    record {
-      all = quarters.all;
-      at = λ s hs. let e : s % 16 + 16 * (s / 16) ≡ s = omega arith in rw e at (quarters.made (s % 16) (s / 16) (omega arith) (omega arith));
-    }
-
--- the choices of the states i, i + 16, i + 32 and i + 48 are made for each i below j
-pub record Choosing (f : ℕ → ℕ) (j : ℕ) (bytes : List ℕ) : Type 0 where
-  pub sixteen : length bytes ≡ 16
-  pub made : (i : ℕ) → i < j → get_or bytes i 0 ≡ four_bits (top (f i)) (top (f (i + 16))) (top (f (i + 32))) (top (f (i + 48)))
-
-pub choosing_none : (f : ℕ → ℕ) (bytes : List ℕ) → length bytes ≡ 16 → Choosing f 0 bytes
-choosing_none f bytes sixteen = record { sixteen = sixteen; made = λ i h. absurd (omega arith) }
-
-pub choosing_again : (f : ℕ → ℕ) (j : ℕ) (bytes : List ℕ) (g0 g1 g2 g3 x : ℕ) → Choosing f j bytes → j < 16
-    → g0 ≡ f j → g1 ≡ f (j + 16) → g2 ≡ f (j + 32) → g3 ≡ f (j + 16 + 32) → x ≡ four_bits (top g0) (top g1) (top g2) (top g3)
-    → Choosing f (j + 1) (set bytes j x)
-choosing_again f j bytes g0 g1 g2 g3 x choosing h e0 e1 e2 e3 ex =
-    let up : j + 16 + 32 ≡ j + 48 = omega arith in
-    record {
-      sixteen = simp length-set choosing.sixteen;
-      made = λ i hi.
-          after_set bytes j x i 0 _ (omega (arith, choosing.sixteen)) (λ same. rw (same, ← up, ← e0, ← e1, ← e2, ← e3) ex)
-          (λ other. choosing.made i (omega arith));
-    }
-
-pub choosing_all : (f : ℕ → ℕ) (j : ℕ) (bytes : List ℕ) → Choosing f j bytes → 16 ≤ j → Chosen f bytes
-choosing_all f j bytes choosing h = record { sixteen = choosing.sixteen; four = λ i hi. choosing.made i (omega arith) }
 
 -- a way by the state before and the branch cost
 way_is : (old : List ℕ) (b : ℕ → ℕ) (s d from r a : ℕ) → before s d ≡ from → via s d ≡ r → b r ≡ a → way old b s d ≡ wrapped (get_or old from 0 + a)

@@ -4,3 +4,4 @@ pub mod Promises
 pub mod Words
 pub mod Followed
 pub mod Spread
+pub mod Kept

@@ -9,24 +9,22 @@ ghost use Rattle.search.specs.Bytes.{cost_of};
 ghost use Rattle.search.specs.Words.{seat};
 
 use crate::costs::pair_of;
-use crate::step::{HALF, decide, masks_of, minus, plus, started};
+use crate::kept::Choices;
+use crate::masks::BothMasks;
+use crate::step::{HALF, started, step};
 use crate::words::word_of;
-use coder::{X_TAPS, Y_TAPS};
-
-fn long(x: u16) -> u32
-    ensures { result ≡ x }
-{
-    x as u32
-}
 
 // The number nearest to the total that is stored so: a step moves the cost of state 0 by less than half the width. With that half on it
 // the wrapped difference is not below 0.
+#[tactic(auto, using(crate::proofs::TurnLaws::nearest_is))]
 fn nearest(total: u32, stored: u16) -> u32
     requires { (total ≤ 4294901760) × Beside total stored }
     ensures { (x : ℕ) → Near total x (wrapped total) stored → result ≡ x }
 {
-    let up = plus(minus(stored, (total % 65536) as u16), HALF);
-    total + long(up) - 32768
+    let up = stored
+        .wrapping_sub((total % 65536) as u16)
+        .wrapping_add(HALF);
+    total + u32::from(up) - 32768
 }
 
 // The words, and the cost of the best way into state 0.
@@ -35,18 +33,15 @@ pub fn forward(n: usize, heard: &[u8], words: &mut [u64]) -> u32
     ensures cost { result ≡ best (branch (cost_of heard.now)) start (n + 6) 0 }
     ensures decided { words.new ≡ filled (n + 6) (λ t. packed 64 (λ p. choice (branch (cost_of heard.now)) start t (seat p))) words.old }
 {
-    let xs = masks_of(X_TAPS);
-    let ys = masks_of(Y_TAPS);
+    let masks = BothMasks::new();
     let mut costs = started();
     let mut total = 0u32;
-    let mut t = 0usize;
-    while t < n + 6 {
-        let turn = decide(costs, &xs, &ys, pair_of(heard[2 * t], heard[2 * t + 1]));
-        let chosen = turn.chosen;
-        words[t] = word_of(&chosen);
+    for t in 0..n + 6 {
+        let pair = pair_of(heard[2 * t], heard[2 * t + 1]);
+        let turn = step::<Choices>(costs, &masks, pair);
+        words[t] = word_of(&turn.kept);
         costs = turn.costs;
         total = nearest(total, costs[0]);
-        t += 1;
     }
     total
 }

@@ -5,18 +5,22 @@
 
 mod costs;
 mod forward;
+mod kept;
+mod masks;
 mod step;
 mod words;
 
-ghost use Rattle.std.specs.Prelude.{◌≡◌, ◌+◌, ◌*◌, ◌<◌, ◌≤◌, length, take, nat_lt, slice_index};
+ghost use Rattle.std.specs.Prelude.{◌≡◌, ◌+◌, ◌*◌, ◌≤◌, length, take, nat_lt, slice_index};
 ghost use Rattle.laws.specs.Lists.{choose};
 ghost use Rattle.coder.specs.Train.{Train};
 ghost use Rattle.search.specs.Promises.{Searched, Marked};
 
-use coder::{X_TAPS, Y_TAPS, parity_of, register_after, wide};
+use coder::{Register, X_TAPS, Y_TAPS, parity_of};
 use costs::own_pair;
 use forward::forward;
-use step::{compare, is_above, masks_of, started};
+use kept::Gaps;
+use masks::BothMasks;
+use step::{is_above, started, step};
 use words::follow;
 
 // Of all trains of n bits, the one of least cost; of equals, the one with 0 at the last place where the two differ. Its cost.
@@ -34,7 +38,7 @@ fn input_of(n: usize, train: &[u8], t: usize) -> u32
     requires { n ≤ length train.now }
     ensures { result ≡ choose (nat_lt t n) (slice_index train.now t) 0 }
 {
-    if t < n { wide(train[t]) } else { 0 }
+    if t < n { u32::from(train[t]) } else { 0 }
 }
 
 // Whether the train is confirmed: a second pass, with one more for each heard bit that agrees with the train's own, in which the way
@@ -43,26 +47,20 @@ pub fn mark(n: usize, heard: &[u8], train: &[u8]) -> bool
     requires { (n ≤ 3472) × (2 * (n + 6) ≤ length heard.now) × Train n (take n train.now) }
     ensures { Marked n heard.now (take n train.now) result }
 {
-    let xs = masks_of(X_TAPS);
-    let ys = masks_of(Y_TAPS);
+    let masks = BothMasks::new();
     let mut costs = started();
-    let mut register = 0u32;
-    let mut t = 0usize;
-    while t < n + 6 {
-        register = register_after(register, input_of(n, train, t));
-        let pair = own_pair(
-            heard[2 * t],
-            heard[2 * t + 1],
-            parity_of(register, X_TAPS),
-            parity_of(register, Y_TAPS),
-        );
-        let turn = compare(costs, &xs, &ys, pair);
-        let gaps = turn.gaps;
-        if !is_above(gaps[(register / 2) as usize], register % 2) {
+    let mut register = Register::empty();
+    for t in 0..n + 6 {
+        register.enter(input_of(n, train, t));
+        let own_x = parity_of(register.bits, X_TAPS);
+        let own_y = parity_of(register.bits, Y_TAPS);
+        let pair = own_pair(heard[2 * t], heard[2 * t + 1], own_x, own_y);
+        let turn = step::<Gaps>(costs, &masks, pair);
+        let gaps = turn.kept;
+        if !is_above(gaps[(register.bits / 2) as usize], register.bits % 2) {
             return false;
         }
         costs = turn.costs;
-        t += 1;
     }
     true
 }

@@ -1,37 +1,26 @@
 // Decision words: the bit of state s in a step's word is 1 where the way into it with oldest bit 1 is the better one.
-ghost use Rattle.std.specs.Prelude.{◌≡◌, ℕ, ◌+◌, ◌-◌, ◌*◌, ◌/◌, ◌%◌, ◌^◌, ◌<◌, ◌≤◌, length, nat_le, slice_index, slice_set};
+ghost use Rattle.std.specs.Prelude.{◌≡◌, ℕ, ◌+◌, ◌-◌, ◌/◌, ◌%◌, ◌^◌, ◌<◌, ◌≤◌, length, nat_le, slice_index, slice_set};
 ghost use Rattle.laws.specs.Lists.{choose, filled};
 ghost use Rattle.laws.specs.Packing.{packed};
 ghost use Rattle.search.specs.Stored.{top};
-ghost use Rattle.search.specs.Words.{Chosen, two_bytes, four_bytes, eight_bytes, seat, bit_in};
+ghost use Rattle.search.specs.Words.{Chosen, eight_bytes, seat, bit_in};
 ghost use Rattle.search.specs.Followed.{followed};
 
-fn long(x: u8) -> u64
-    ensures { (result ≡ x) × (result < 256) }
-{
-    x as u64
-}
-
-// Two bytes from place k on as one number, the first the lower; then four, and eight.
-fn two(bytes: &[u8; 16], k: usize) -> u64
-    requires { k ≤ 14 }
-    ensures { (result ≡ two_bytes bytes.now k) × (result < 65536) }
-{
-    long(bytes[k]) + 256 * long(bytes[k + 1])
-}
-
-fn four(bytes: &[u8; 16], k: usize) -> u64
-    requires { k ≤ 12 }
-    ensures { (result ≡ four_bytes bytes.now k) × (result < 4294967296) }
-{
-    two(bytes, k) + 65536 * two(bytes, k + 2)
-}
-
+// Eight bytes from place k on as one number, the first the lowest.
 fn eight(bytes: &[u8; 16], k: usize) -> u64
     requires { k ≤ 8 }
     ensures { result ≡ eight_bytes bytes.now k }
 {
-    four(bytes, k) + 4294967296 * four(bytes, k + 4)
+    u64::from_le_bytes([
+        bytes[k],
+        bytes[k + 1],
+        bytes[k + 2],
+        bytes[k + 3],
+        bytes[k + 4],
+        bytes[k + 5],
+        bytes[k + 6],
+        bytes[k + 7],
+    ])
 }
 
 // The word of a step's choices, four to a byte: bit 8 (s % 8) + s / 8 is that of state s.
@@ -67,9 +56,7 @@ pub fn follow(n: usize, train: &mut [u8], words: &mut [u64])
     ensures zeroed { words.new ≡ filled (n + 6) (λ _. 0) words.old }
 {
     let mut s = 0u64;
-    let mut t = n + 6;
-    while 0 < t {
-        t -= 1;
+    for t in (0..n + 6).rev() {
         let bit = bit_of(words[t], 8 * (s % 8) + s / 8);
         words[t] = 0;
         put_input(train, t, bit);

@@ -1,11 +1,8 @@
 -- `search::mark` is the second pass, which ends where the other way into the train's state is not strictly above (MarkLaws).
 -- Assumes nothing.
-use Rattle.std.proofs.Common.{◌+◌, ◌-◌, take}
+use Rattle.std.proofs.Common.{take}
 use Rattle.search.proofs.MarkLaws.{Marking}
 use Rattle.search.proofs.mark.Given as goal
 
 abbrev pub invariant-loop-t : goal.invariant-loop-t
-invariant-loop-t l = Marking l.n l.heard (take l.n l.train) l.xs l.ys l.costs l.register l.t
-
-abbrev pub decreases-loop-t : goal.decreases-loop-t
-decreases-loop-t l = l.n + 6 - l.t
+invariant-loop-t l = Marking l.n l.heard (take l.n l.train) l.costs l.register.bits l.t

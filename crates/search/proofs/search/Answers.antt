@@ -5,5 +5,5 @@ use Rattle.search.proofs.search.Goals as goal
 
 pub returns : goal.returns
 returns c =
-    searched _ _ _ _ (λ m. (c.shared_slice_known-1.given m).fits) _ _ _ _
+    searched _ _ _ _ (λ m. (c.type_inv.heard m).fits) _ _ _ _
     c.forward-cost.ensures.cost c.forward-cost.ensures.decided c.follow.ensures.found c.follow.ensures.zeroed

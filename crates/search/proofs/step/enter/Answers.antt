@@ -1,19 +1,22 @@
 -- `search::step::enter` leads into four states over two crossings (StepLaws).
 -- Assumes nothing.
-use Rattle.std.proofs.Common.{◌+◌, refl, ◌∙◌, arith}
+use Rattle.std.proofs.Common.{◌≡◌, ◌+◌, ◌<◌, refl, ◌∙◌, arith}
 use Rattle.search.proofs.StepLaws.{mask_x_lem, entered}
 use Rattle.search.proofs.step.enter.Goals as goal
 
 pub returns : goal.returns
 returns c =
-    let pre = c.requires in
     let j = c.args.j in
-    let more = pre.3 in
-    let x_mask = pre.0.mask j (omega (arith, more)) in
-    let y_mask = pre.1.mask j (omega (arith, more)) in
-    let far-mask = pre.1.mask (j + 16) (omega (arith, more)) in record {
-      near = entered _ _ _ _ _ j _ _ pre.2 (omega (arith, more)) refl refl _ _
-          (c.branch_of-a.ensures _ x_mask y_mask) c.minus.ensures _ _ _ _ c.cross.ensures;
-      far = entered _ _ _ _ _ (j + 16) _ _ pre.2 (omega (arith, more)) (omega arith) (omega arith) _ _
-          (c.branch_of-b.ensures _ (x_mask ∙ mask_x_lem j more) far-mask) c.minus-2.ensures _ _ _ _ c.cross-2.ensures;
+    let masks = c.args.masks.now in
+    let small = c.args.pair.small in
+    let more : j + 16 < 32 = omega arith in
+    let up : j + 16 + 32 ≡ j + 48 = omega arith in
+    let x_mask = masks.of_x.mask j (omega arith) in
+    let a = c.branch_of-a.ensures _ x_mask (masks.of_y.mask j (omega arith)) in
+    let b = c.branch_of-b.ensures _ (x_mask ∙ mask_x_lem j c.requires) (masks.of_y.mask (j + 16) more) in
+    let near = entered _ _ _ _ _ j _ _ small (omega arith) refl refl _ _ a refl _ _ _ _ c.cross-near.ensures in
+    let far = entered _ _ _ _ _ (j + 16) _ _ small more (omega arith) (omega arith) _ _ b refl _ _ _ _ c.cross-far.ensures in
+    record {
+      costs = record { first = near.low_is; second = far.low_is; third = near.high_is; fourth = rw up at far.high_is };
+      gaps = record { first = near.low_by; second = far.low_by; third = near.high_by; fourth = rw up at far.high_by };
     }

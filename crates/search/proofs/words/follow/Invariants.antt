@@ -5,6 +5,3 @@ use Rattle.search.proofs.words.follow.Given as goal
 
 abbrev pub invariant-loop-t : goal.invariant-loop-t
 invariant-loop-t l = Following l.n l.initial.train l.initial.words l.train l.words l.s l.t
-
-abbrev pub decreases-loop-t : goal.decreases-loop-t
-decreases-loop-t l = l.t
