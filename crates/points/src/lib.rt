@@ -11,6 +11,7 @@ ghost use Rattle.points.specs.Points.{ideal_i, ideal_q, Room, Ideal, k_of, part}
 use modes::Constellation;
 
 // Table 5: a row for no bits on an axis, for one, two and three, and in it the levels by the bits' value.
+// Its rows are filled up with zeros: rows of their own lengths, as slices, take three to five instructions more for a carrier.
 const LEVELS: [[i16; 8]; 4] = [
     [0, 0, 0, 0, 0, 0, 0, 0],
     [-1, 1, 0, 0, 0, 0, 0, 0],
@@ -24,13 +25,6 @@ const K2: f32 = 0.70710678;
 const K10: f32 = 0.31622776;
 
 const K42: f32 = 0.15430336;
-
-// A carrier's ideal reading.
-#[derive(Drop)]
-struct Reading {
-    i: i16,
-    q: i16,
-}
 
 // The transmitter's d for a carrier.
 #[derive(Drop)]
@@ -47,21 +41,15 @@ fn level_of(width: usize, bits: usize) -> i16
     if bits < 8 { LEVELS[width][bits] } else { 0 }
 }
 
-// The level on I of a group's value. The last half of a group's bits is for Q, and of BPSK's one bit none.
-fn level_i(c: Constellation, group: usize) -> i16
-    ensures { result ≡ level_i c group }
+// The levels on I and Q of a group's value. The last half of a group's bits is for Q, and of BPSK's one bit none.
+fn levels_of(c: Constellation, group: usize) -> (i16, i16)
+    ensures { (result.0 ≡ level_i c group) × (result.1 ≡ level_q c group) }
 {
     let b = modes::bits_per_carrier(c) as usize;
-    let w = b / 2;
-    level_of(b - w, group >> w)
-}
-
-// The level on Q.
-fn level_q(c: Constellation, group: usize) -> i16
-    ensures { result ≡ level_q c group }
-{
-    let w = modes::bits_per_carrier(c) as usize / 2;
-    level_of(w, group % (1 << w))
+    let for_q = b / 2;
+    let on_i = level_of(b - for_q, group >> for_q);
+    let on_q = level_of(for_q, group % (1 << for_q));
+    (on_i, on_q)
 }
 
 // K of document 01.
@@ -81,36 +69,34 @@ pub fn point_of(c: Constellation, group: usize) -> Point
     ensures { (result.i ≡ part c (level_i c group)) × (result.q ≡ part c (level_q c group)) }
 {
     let k = scale(c);
-    let i = level_i(c, group) as f32;
-    let q = level_q(c, group) as f32;
-    Point { i: i * k, q: q * k }
+    let (i, q) = levels_of(c, group);
+    Point {
+        i: f32::from(i) * k,
+        q: f32::from(q) * k,
+    }
 }
 
-// The value of b bits, the earliest the highest.
-fn value_of(sent: &[u8], from: usize, b: usize) -> usize
-    requires { (b ≤ 6) × (from + b ≤ length sent.now) }
-    ensures { result ≡ value_of sent.now from b }
+// The value of at most six bits, the earliest the highest.
+fn value_of(bits: &[u8]) -> usize
+    requires { length bits.now ≤ 6 }
+    ensures { result ≡ value_of bits.now 0 (length bits.now) }
 {
     let mut value = 0;
-    let mut k = 0;
-    while k < b {
-        let bit = sent[from + k] as usize;
-        value = 2 * value + bit;
-        k += 1;
+    for bit in bits {
+        value = 2 * value + usize::from(*bit);
     }
     value
 }
 
-// The ideal reading of carrier k.
-fn ideal_of(c: Constellation, sent: &[u8], k: usize) -> Reading
+// The ideal reading of carrier k on I and on Q.
+fn ideal_of(c: Constellation, sent: &[u8], k: usize) -> (i16, i16)
     requires { bits_of c * k + bits_of c ≤ length sent.now }
-    ensures { (result.i ≡ ideal_i c sent.now k) × (result.q ≡ ideal_q c sent.now k) }
+    ensures { (result.0 ≡ ideal_i c sent.now k) × (result.1 ≡ ideal_q c sent.now k) }
 {
     let b = modes::bits_per_carrier(c) as usize;
-    let group = value_of(sent, b * k, b);
-    let i = 256 * level_i(c, group);
-    let q = 256 * level_q(c, group);
-    Reading { i, q }
+    let at = b * k;
+    let (i, q) = levels_of(c, value_of(&sent[at..at + b]));
+    (256 * i, 256 * q)
 }
 
 // The ideal readings of as many carriers, from the bits as they were sent.
@@ -118,15 +104,8 @@ pub fn readings(c: Constellation, carriers: usize, sent: &[u8], i: &mut [i16], q
     requires { Room c carriers sent.now i.old q.old }
     ensures { Ideal c carriers sent.now i.old q.old i.new q.new }
 {
-    let mut k = 0;
-    while k < carriers {
-        let r = ideal_of(c, sent, k);
-        // A signed number is stored from a local of its own: the borrow checker takes no field there.
-        let on_i = r.i;
-        let on_q = r.q;
-        i[k] = on_i;
-        q[k] = on_q;
-        k += 1;
+    for k in 0..carriers {
+        (i[k], q[k]) = ideal_of(c, sent, k);
     }
 }
 
@@ -134,12 +113,5 @@ pub fn readings(c: Constellation, carriers: usize, sent: &[u8], i: &mut [i16], q
 pub fn bits_ok(sent: &[u8]) -> bool
     ensures { result ≡ all_bits sent.now }
 {
-    let mut k = 0;
-    while k < sent.len() {
-        if 2 <= sent[k] {
-            return false;
-        }
-        k += 1;
-    }
-    true
+    sent.iter().all(|bit| *bit < 2)
 }

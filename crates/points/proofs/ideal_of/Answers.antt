@@ -1,39 +1,33 @@
--- `points::ideal_of` meets its contract: the product on each axis fits, and is the ideal reading of the carrier's group.
+-- `points::ideal_of` meets its contract: the carrier's group is a part of the sent bits, and the product on each axis fits.
 -- Assumes nothing.
+use mathlib.Core.Path.{◌≡◌, ◌∙◌}
 use native.Mathlib.Omega.{arith}
+use Rattle.modes.specs.Modes.{bits_of}
 use Rattle.points.specs.Levels.{group}
 use Rattle.points.specs.Points.{ideal_i, ideal_q}
+use Rattle.points.proofs.BitLaws.{value_part}
 use Rattle.points.proofs.LevelLaws.{fits_i, fits_q, product_fits, product_is}
 use Rattle.points.proofs.ideal_of.Goals as goal
+use Rattle.points.proofs.ideal_of.Goals.{After-value_of}
 
-pub bits_per_carrier-b-requires : goal.bits_per_carrier-b-requires
-bits_per_carrier-b-requires c = tt
+-- the value that was made is the carrier's group
+is_group : (c : After-value_of) → c.value_of.result ≡ group (bits_of c.args.c) c.args.sent.now c.args.k
+unfolding group
+is_group c =
+    let b = c.bits_per_carrier-b in
+    rw (← b.ensures.0) (c.value_of.ensures ∙ value_part c.args.sent.now _ _ _ (omega arith) (rw b.ensures.0 c.requires))
 
-pub overflow_mul-b : goal.overflow_mul-b
-overflow_mul-b c = rw c.bits_per_carrier-b.ensures.0 (omega arith)
+pub overflow_mul-result : goal.overflow_mul-result
+overflow_mul-result c = let l = c.levels_of-i in product_fits l.result.0 (omega arith) l.ensures.0 (fits_i _ _)
 
-pub value_of-group-requires : goal.value_of-group-requires
-value_of-group-requires c = (c.bits_per_carrier-b.ensures.2, rw c.bits_per_carrier-b.ensures.0 c.requires)
-
-pub level_i-i-requires : goal.level_i-i-requires
-level_i-i-requires c = tt
-
-pub overflow_mul-i : goal.overflow_mul-i
-overflow_mul-i c = product_fits c.level_i-i.result c.level_i-i.type_inv c.level_i-i.ensures (fits_i _ _)
-
-pub level_q-q-requires : goal.level_q-q-requires
-level_q-q-requires c = tt
-
-pub overflow_mul-q : goal.overflow_mul-q
-overflow_mul-q c = product_fits c.level_q-q.result c.level_q-q.type_inv c.level_q-q.ensures (fits_q _ _)
+pub overflow_mul-result-2 : goal.overflow_mul-result-2
+overflow_mul-result-2 c = let l = c.levels_of-i in product_fits l.result.1 (omega arith) l.ensures.1 (fits_q _ _)
 
 pub returns : goal.returns
-unfolding group ideal_i ideal_q
+unfolding ideal_i ideal_q
 returns c =
-    let b = c.bits_per_carrier-b.ensures.0 in
-    let g = c.value_of-group.ensures in
-    let i = c.level_i-i in
-    let q = c.level_q-q in (
-      rw (product_is i.result i.type_inv i.ensures (fits_i _ _), g, b),
-      rw (product_is q.result q.type_inv q.ensures (fits_q _ _), g, b),
+    let l = c.levels_of-i in
+    let g = is_group (goal.at.returns c).After-value_of in (
+      rw (← g) (product_is l.result.0 (omega arith) l.ensures.0 (fits_i _ _)),
+      rw (← g) (product_is l.result.1 (omega arith) l.ensures.1 (fits_q _ _)),
     )

@@ -1,35 +1,25 @@
 -- `points::readings` meets its contract. The loop's invariant: the ideal readings of the carriers passed stand in i and q.
 -- Assumes nothing.
-use mathlib.Core.Path.{◌≡◌, refl, sym}
+use mathlib.Core.Path.{sym}
 use native.Mathlib.Omega.{arith}
-use lib.ListN.{length-set}
+use mir.Syntax.{w16}
 use Rattle.laws.proofs.ListLaws.{filled_none, filled_put}
+use Rattle.laws.proofs.SignedLaws.{kept}
 use Rattle.points.specs.Points.{ideal_i, ideal_q}
 use Rattle.points.proofs.BitLaws.{group_within}
-use mir.Syntax.{w16}
-use Rattle.laws.proofs.SignedLaws.{kept}
 use Rattle.points.proofs.readings.Goals as goal
 
 pub loop-k-init : goal.loop-k-init
-loop-k-init c = (omega arith, refl, refl, record { on_i = sym (filled_none _ _); on_q = sym (filled_none _ _) })
+loop-k-init c = record { on_i = sym (filled_none _ _); on_q = sym (filled_none _ _) }
 
-pub ideal_of-r-requires : goal.ideal_of-r-requires
-ideal_of-r-requires c = group_within _ _ _ c.loop-k-test.true c.requires.enough
+pub ideal_of-requires : goal.ideal_of-requires
+ideal_of-requires c = group_within _ _ _ c.loop-k-test.true c.requires.enough
 
 pub loop-k-preserved : goal.loop-k-preserved
 loop-k-preserved c =
-    let r = c.ideal_of-r in
-    let so_far = c.loop-k.invariant.3 in (
-      omega arith,
-      simp length-set (omega arith),
-      simp length-set (omega arith),
-      record {
-        on_i = filled_put _ (ideal_i _ _) _ _ _ so_far.on_i (kept w16 r.result.i (omega arith) r.ensures.0) (omega arith);
-        on_q = filled_put _ (ideal_q _ _) _ _ _ so_far.on_q (kept w16 r.result.q (omega arith) r.ensures.1) (omega arith);
-      },
-    )
-
-pub returns : goal.returns
-returns c =
-    let done : c.loop-k.k ≡ c.args.carriers = omega arith in
-    rw done at c.loop-k.invariant.3
+    let r = c.ideal_of in
+    let so_far = c.loop-k.invariant in
+    record {
+      on_i = filled_put _ (ideal_i _ _) _ _ _ so_far.on_i (kept w16 r.result.0 (omega arith) r.ensures.0) (omega arith);
+      on_q = filled_put _ (ideal_q _ _) _ _ _ so_far.on_q (kept w16 r.result.1 (omega arith) r.ensures.1) (omega arith);
+    }
