@@ -1,16 +1,16 @@
 -- Laws of the range -80 to 80: every soft byte that is made lies in it, and the test that soft bytes do.
 -- Assumes nothing.
-use mathlib.Core.Path.{◌≡◌, refl, sym, ap, ◌∙◌}
-use mathlib.Core.Bool.{Bool, true, false, ◌&&◌}
+use mathlib.Core.Path.{◌≡◌, refl, sym}
+use mathlib.Core.Bool.{Bool, true, false, not, ◌&&◌, ◌||◌, false≢true}
 use mathlib.Core.List.{List, [], ◌∷◌}
-use Prim.Native.Nat.{ℕ, zero, suc, ◌+◌, ◌-◌, ◌%◌, ◌<◌, ◌≤◌}
-use native.Mathlib.Numerals.{add-one}
+use Prim.Native.Nat.{ℕ, zero, suc, ◌-◌, ◌%◌, ◌<◌, ◌≤◌}
 use native.Mathlib.Omega.{arith}
 use lib.Dec.{ltb}
 use lib.IntN.{ℤ, pos, ◌-ℤ◌}
-use lib.ListN.{length, get_or, drop, drop_of_length-le}
-use lib.Seq.{drop-cons}
-use lib.Signed.{lt_z}
+use lib.ListN.{length, get_or}
+use lib.Signed.{lt_z, clash_ℤ, lt_z_yes, lt_z_no}
+use Rattle.std.proofs.lemmas.Bool.{false_from_ne_true}
+use Rattle.std.specs.Prelude.{◌↔◌, ◌≤ℤ◌, IsTrue, EachIndex, slice_index_or}
 use borrow.Author.Tests.{le-ltb, ltb-true, ltb-false}
 use Rattle.laws.specs.Lists.{tabulate}
 use Rattle.laws.proofs.SignedLaws.{less_pos, less_neg}
@@ -68,25 +68,34 @@ all_soft_at [] all k = refl
 all_soft_at (x ∷ l) all zero = (both_true (is_soft x) (all_soft l) all).0
 all_soft_at (x ∷ l) all (suc k) = all_soft_at l (both_true (is_soft x) (all_soft l) all).1 k
 
-next : (l : List ℤ) (k : ℕ) → k < length l → all_soft (drop k l) ≡ (is_soft (get_or l k (pos 0)) && all_soft (drop (k + 1) l))
+in_soft : (x : ℤ) → minus 80 ≤ℤ x → x ≤ℤ pos 80 → is_soft x ≡ true
+unfolding is_soft
+in_soft x low high = go _ _ refl refl
+  where
+    go : (s t : Bool) → lt_z x (minus 80) ≡ s → lt_z (pos 80) x ≡ t → is_soft x ≡ true
+    go true t e f = clash_ℤ (lt_z_yes (rw e tt)) low
+    go false true e f = clash_ℤ (lt_z_yes (rw f tt)) high
+    go false false e f = rw (e, f)
+
+soft_within : (x : ℤ) → is_soft x ≡ true → (minus 80 ≤ℤ x) × (x ≤ℤ pos 80)
+unfolding is_soft
+soft_within x h = go _ _ refl refl h
+  where
+    go : (s t : Bool) → lt_z x (minus 80) ≡ s → lt_z (pos 80) x ≡ t → not (s || t) ≡ true → (minus 80 ≤ℤ x) × (x ≤ℤ pos 80)
+    go true t e f h = absurd (false≢true h)
+    go false true e f h = absurd (false≢true h)
+    go false false e f h = (lt_z_no (rw e tt), lt_z_no (rw f tt))
+
+all_soft_by : (l : List ℤ) → ((k : ℕ) → k < length l → is_soft (get_or l k (pos 0)) ≡ true) → all_soft l ≡ true
 unfolding all_soft
-next l k h = rw (add-one k, drop-cons l k (pos 0) h)
+all_soft_by [] each = refl
+all_soft_by (x ∷ l) each = rw (each zero (omega arith)) (all_soft_by l (λ k h. each (suc k) (omega arith)))
 
--- the test hangs on the soft bytes from k on: one below or above decides it, one between leaves it to the next
-module _ (l : List ℤ) (k : ℕ) (rest : all_soft l ≡ all_soft (drop k l)) where
-  pub soft_below : k < length l → (x : ℤ) → x ≡ get_or l k (pos 0) → lt_z x (minus 80) ≡ true → false ≡ all_soft l
-  unfolding is_soft
-  soft_below h x e t = rw (rest, next l k h, ← e, t)
-
-  pub soft_above : k < length l → (x : ℤ) → x ≡ get_or l k (pos 0) → lt_z x (minus 80) ≡ false → lt_z (pos 80) x ≡ true → false ≡ all_soft l
-  unfolding is_soft
-  soft_above h x e t u = rw (rest, next l k h, ← e, t, u)
-
-  pub soft_again : k < length l → (x : ℤ) → x ≡ get_or l k (pos 0) → lt_z x (minus 80) ≡ false → lt_z (pos 80) x ≡ false
-      → all_soft l ≡ all_soft (drop (k + 1) l)
-  unfolding is_soft
-  soft_again h x e t u = rest ∙ rw (next l k h, ← e, t, u)
-
-  pub soft_end : length l ≤ k → true ≡ all_soft l
-  unfolding all_soft
-  soft_end h = sym (rest ∙ ap all_soft (drop_of_length-le l h))
+-- the test by its outcome
+pub soft_by : (l : List ℤ) (r : Bool)
+    → (IsTrue r ↔ EachIndex l (λ k. (minus 80 ≤ℤ slice_index_or l k (pos 0)) × (slice_index_or l k (pos 0) ≤ℤ pos 80)))
+    → r ≡ all_soft l
+soft_by l true h =
+    sym (all_soft_by l (λ k hk. let b = h.0 refl k hk in in_soft (get_or l k (pos 0)) b.0 b.1))
+soft_by l false h =
+    sym (false_from_ne_true (all_soft l) (λ e. false≢true (h.1 (λ k _. soft_within (get_or l k (pos 0)) (all_soft_at l e k)))))

@@ -21,6 +21,69 @@ fn raised(r: i16) -> u32
     (r as i32 + 32768) as u32
 }
 
+// A reading held, counted from -2,048.
+#[derive(Clone, Copy)]
+struct Held {
+    p: u32,
+    ghost within: { p ≤ 4096 },
+}
+
+impl Held {
+    // Raised, -2,048 is 30,720 and 2,048 is 34,816. (`clamp` takes one or two instructions more for each soft byte.)
+    #[tactic(auto, using(crate::proofs::HeldLaws::held_by))]
+    fn of(r: i16) -> Held
+        ensures { result.p ≡ counted 2048 (held r) }
+    {
+        let x = raised(r);
+        if x < 30720 {
+            return Held { p: 0 };
+        }
+        if 34816 < x {
+            return Held { p: 4096 };
+        }
+        Held { p: x - 30720 }
+    }
+
+    // The size of S of the first of v bits.
+    fn strength(self, v: usize) -> u32
+        requires { (1 ≤ v) × (v ≤ 3) }
+        ensures { (result ≡ strength v ((self.p - 2048) + (2048 - self.p))) × (result ≤ 5120) }
+    {
+        let m = self.p.abs_diff(2048);
+        if v == 1 {
+            return m;
+        }
+        let s = m + m.saturating_sub(512);
+        if v == 2 {
+            return s;
+        }
+        s + m.saturating_sub(1024) + m.saturating_sub(1536)
+    }
+
+    // The soft byte of the first of v bits, counted from -128: halves are rounded away from zero, which is 128 here.
+    #[tactic(auto, using(crate::proofs::ClosedLaws::side_below, crate::proofs::ClosedLaws::side_above), unfolding(crate::specs::Closed::byte_from))]
+    fn first_byte(self, v: usize) -> u32
+        requires { (1 ≤ v) × (v ≤ 3) }
+        ensures { (result ≡ byte_from v self.p) × (result < 256) }
+    {
+        let n = self.strength(v);
+        if 2048 <= self.p {
+            128 + (n + 32) / 64
+        } else {
+            128 - (n + 32) / 64
+        }
+    }
+
+    // The reading whose first bit is the second of the v bits here.
+    fn folded(self, v: usize) -> Held
+        requires { v ≤ 3 }
+        ensures { result.p ≡ folded v self.p }
+    {
+        let p = 2048 + (128 << v) - self.p.abs_diff(2048);
+        Held { p }
+    }
+}
+
 // A soft byte that was counted from -128.
 fn lowered(x: u32) -> i8
     requires { x < 256 }
@@ -29,84 +92,15 @@ fn lowered(x: u32) -> i8
     (x as i32 - 128) as i8
 }
 
-// A reading held, counted from -2,048: raised, -2,048 is 30,720 and 2,048 is 34,816.
-#[tactic(auto, using(crate::proofs::HeldLaws::held_by))]
-fn held_from(r: i16) -> u32
-    ensures { (result ≡ counted 2048 (held r)) × (result ≤ 4096) }
+// The soft bytes of a reading of w bits, from `at` on: each bit is the first of those that are left.
+fn put_axis(w: usize, reading: Held, at: usize, soft: &mut [i8])
+    requires { (w ≤ 3) × (at + w ≤ length soft.old) }
+    ensures { soft.new ≡ stored at w (soft_from w reading.p) soft.old }
 {
-    let x = raised(r);
-    if x < 30720 {
-        return 0;
-    }
-    if 34816 < x {
-        return 4096;
-    }
-    x - 30720
-}
-
-// What m is past a border.
-fn past(m: u32, border: u32) -> u32
-    ensures { result ≡ m - border }
-{
-    if border < m { m - border } else { 0 }
-}
-
-// How far a reading is from zero.
-fn distance(p: u32) -> u32
-    ensures { result ≡ (p - 2048) + (2048 - p) }
-{
-    if p < 2048 { 2048 - p } else { p - 2048 }
-}
-
-// The size of S of the first of v bits, at the distance m from zero.
-fn strength_of(v: usize, m: u32) -> u32
-    requires { (1 ≤ v) × (v ≤ 3) × (m ≤ 2048) }
-    ensures { (result ≡ strength v m) × (result ≤ 5120) }
-{
-    if v == 1 {
-        return m;
-    }
-    let s = m + past(m, 512);
-    if v == 2 {
-        return s;
-    }
-    s + past(m, 1024) + past(m, 1536)
-}
-
-// The soft byte of the first of v bits, counted from -128: halves are rounded away from zero, which is 128 here.
-#[tactic(auto, using(crate::proofs::ClosedLaws::side_below, crate::proofs::ClosedLaws::side_above), unfolding(crate::specs::Closed::byte_from))]
-fn byte_of(v: usize, p: u32) -> u32
-    requires { (1 ≤ v) × (v ≤ 3) × (p ≤ 4096) }
-    ensures { (result ≡ byte_from v p) × (result < 256) }
-{
-    let n = strength_of(v, distance(p));
-    if 2048 <= p {
-        128 + (n + 32) / 64
-    } else {
-        128 - (n + 32) / 64
-    }
-}
-
-// The reading whose first bit is the second of the v bits at p.
-fn folded_from(v: usize, p: u32) -> u32
-    requires { (v ≤ 3) × (p ≤ 4096) }
-    ensures { (result ≡ folded v p) × (result ≤ 4096) }
-{
-    2048 + (128 << v) - distance(p)
-}
-
-// The soft bytes of a held reading of w bits, from `at` on: each bit is the first of those that are left.
-fn put_axis(w: usize, held: u32, at: usize, soft: &mut [i8])
-    requires { (w ≤ 3) × (held ≤ 4096) × (at + w ≤ length soft.old) }
-    ensures { soft.new ≡ stored at w (soft_from w held) soft.old }
-{
-    let mut p = held;
-    let mut j = 0;
-    while j < w {
-        let s = lowered(byte_of(w - j, p));
-        soft[at + j] = s;
-        p = folded_from(w - j, p);
-        j += 1;
+    let mut left = reading;
+    for j in 0..w {
+        soft[at + j] = lowered(left.first_byte(w - j));
+        left = left.folded(w - j);
     }
 }
 
@@ -119,8 +113,8 @@ fn put_carrier(c: Constellation, i: &[i16], q: &[i16], k: usize, soft: &mut [i8]
     let on_q = b / 2;
     let on_i = b - on_q;
     let at = b * k;
-    put_axis(on_i, held_from(i[k]), at, soft);
-    put_axis(on_q, held_from(q[k]), at + on_i, soft);
+    put_axis(on_i, Held::of(i[k]), at, soft);
+    put_axis(on_q, Held::of(q[k]), at + on_i, soft);
 }
 
 // The soft bytes of as many carriers, one for each sent bit.
@@ -128,28 +122,14 @@ pub fn soften(c: Constellation, carriers: usize, i: &[i16], q: &[i16], soft: &mu
     requires { Readings c carriers i.now q.now soft.old }
     ensures { soft.new ≡ filled (bits_of c * carriers) (soft_at c i.now q.now) soft.old }
 {
-    let mut k = 0;
-    while k < carriers {
+    for k in 0..carriers {
         put_carrier(c, i, q, k, soft);
-        k += 1;
     }
 }
 
 // Whether every soft byte lies in -80 to 80.
-#[tactic(auto, using(crate::proofs::RangeLaws::soft_below, crate::proofs::RangeLaws::soft_above, laws::proofs::SignedLaws::kept))]
 pub fn soft_ok(soft: &[i8]) -> bool
     ensures { result ≡ all_soft soft.now }
 {
-    let mut k = 0;
-    while k < soft.len() {
-        let s = soft[k];
-        if s < -80 {
-            return false;
-        }
-        if 80 < s {
-            return false;
-        }
-        k += 1;
-    }
-    true
+    soft.iter().all(|s| (-80..=80).contains(s))
 }

