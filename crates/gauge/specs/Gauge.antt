@@ -1,11 +1,10 @@
 -- What the search's C names promise.
 --   unfit         the answer to what is not fit to be searched
 --   Fit, Lengths  n is in range, and the buffers have the lengths that it needs
---   Tells         whether they do
 --   Gauged        the search's promise where the lengths are fit; else the answer is `unfit` and nothing is changed
 --   Marks         the mark's promise, as 1 or 0, where the lengths are fit and the train is bits; else the answer is `unfit`
 -- Assumes nothing.
-use Rattle.std.specs.Prelude.{◌≡◌, Bool, true, false, ◌⊎◌, List, ℕ, ◌+◌, ◌*◌, ◌≤◌, length, take}
+use Rattle.std.specs.Prelude.{◌≡◌, true, false, ◌⊎◌, List, ℕ, ◌+◌, ◌*◌, ◌≤◌, length, take}
 use Rattle.coder.specs.Train.{Train}
 use Rattle.search.specs.Promises.{Searched, Marked}
 
@@ -22,11 +21,6 @@ pub record Fit (n heard train : ℕ) : Type 0 where
 -- the same of the buffers
 abbrev pub Lengths : ℕ → List ℕ → List ℕ → Type 0
 Lengths n heard train = Fit n (length heard) (length train)
-
--- whether lengths are fit
-pub record Tells (n heard train : ℕ) (r : Bool) : Type 0 where
-  pub so : r ≡ true → Fit n heard train
-  pub not_so : r ≡ false → Fit n heard train → ⊥
 
 -- the search, or nothing
 pub record Gauged (n : ℕ) (heard train words : List ℕ) (r : ℕ) (train' words' : List ℕ) : Type 0 where

@@ -2,31 +2,31 @@
 // is answered with 4,294,967,295, and nothing is changed. The calls with document 01's refusals are those of `modem`.
 #![tactic(auto)]
 
-ghost use Rattle.gauge.specs.Gauge.{Tells, Gauged, Marks};
+ghost use Rattle.std.specs.Prelude.{◌≡◌, MatchOption};
+ghost use Rattle.gauge.specs.Gauge.{Fit, Gauged, Marks};
 
+// The C interface has a number for no answer.
 const UNFIT: u32 = 4294967295;
 
-fn is_fit(n: u32, heard: usize, train: usize) -> bool
-    ensures { Tells n heard train result }
+// The number of bits, where it is in range and the lengths are those that it needs.
+fn fit(n: u32, heard: usize, train: usize) -> Option<usize>
+    ensures { MatchOption result (Fit n heard train → ⊥) (λ bits. (bits ≡ n) × Fit n heard train) }
 {
-    if 3472 < n {
-        return false;
-    }
     let bits = n as usize;
-    if heard != 2 * (bits + 6) {
-        return false;
+    if n <= 3472 && heard == 2 * (bits + 6) && bits <= train {
+        Some(bits)
+    } else {
+        None
     }
-    bits <= train
 }
 
 #[unsafe(no_mangle)]
 pub extern "C" fn gauge_search(n: u32, heard: &[u8], train: &mut [u8], words: &mut [u64]) -> u32
     ensures { Gauged n heard.now train.old words.old result train.new words.new }
 {
-    if !is_fit(n, heard.len(), train.len()) {
+    let Some(bits) = fit(n, heard.len(), train.len()) else {
         return UNFIT;
-    }
-    let bits = n as usize;
+    };
     if words.len() < bits + 6 {
         return UNFIT;
     }
@@ -38,16 +38,11 @@ pub extern "C" fn gauge_search(n: u32, heard: &[u8], train: &mut [u8], words: &m
 pub extern "C" fn gauge_mark(n: u32, heard: &[u8], train: &[u8]) -> u32
     ensures { Marks n heard.now train.now result }
 {
-    if !is_fit(n, heard.len(), train.len()) {
+    let Some(bits) = fit(n, heard.len(), train.len()) else {
         return UNFIT;
-    }
-    let bits = n as usize;
+    };
     if !points::bits_ok(&train[0..bits]) {
         return UNFIT;
     }
-    if search::mark(bits, heard, train) {
-        1
-    } else {
-        0
-    }
+    u32::from(search::mark(bits, heard, train))
 }
