@@ -7,15 +7,6 @@ ghost use Rattle.std.specs.Prelude.{◌<◌, ◌≤◌};
 use modes::Constellation;
 use std::io;
 
-// The four lines of a row of sixteen bits.
-#[derive(Clone, Copy)]
-enum Line {
-    Bit,
-    Place,
-    Carrier,
-    CarrierBit,
-}
-
 // At the right of a column of five characters.
 fn print_number(rt: &impl Print, number: u16) -> io::Result<()> {
     print!(rt; "  {number:3}")
@@ -32,53 +23,50 @@ fn print_carrier_bit(rt: &impl Print, number: u16) -> io::Result<()> {
     print!(rt; "   b{number}")
 }
 
-fn print_name(rt: &impl Print, line: Line) -> io::Result<()> {
-    match line {
-        Line::Bit => rt.print("bit    "),
-        Line::Place => rt.print("place  "),
-        Line::Carrier => rt.print("carrier"),
-        Line::CarrierBit => rt.print("its bit"),
-    }
-}
-
-// What a line says of the bit k that goes to a place, where a carrier has b bits.
-fn print_entry(rt: &impl Print, line: Line, k: u16, place: u16, b: u16) -> io::Result<()>
-    requires { (1 ≤ b) × (b ≤ 6) }
-{
-    match line {
-        Line::Bit => print_number(rt, k),
-        Line::Place => print_number(rt, place),
-        Line::Carrier => print_number(rt, place / b),
-        Line::CarrierBit => print_carrier_bit(rt, carrier_bit(place, b)),
-    }
-}
-
-fn print_line(
+// A line of a row: its name, and what is printed of each of the sixteen bits, by the bit and the place that it goes to.
+fn print_line<F: Fn(u16, u16) -> io::Result<()>>(
     rt: &impl Print,
-    line: Line,
+    name: &str,
     places: &[u16; 288],
-    row: usize,
-    b: u16,
+    row: u16,
+    print_entry: F,
 ) -> io::Result<()>
-    requires { (row < 18) × (1 ≤ b) × (b ≤ 6) }
+    requires row { row < 18 }
+    requires entry { F.IsAlwaysCallable print_entry }
 {
-    print_name(rt, line)?;
-    let mut column = 0;
-    while column < 16 {
-        let k = 16 * row + column;
-        print_entry(rt, line, k as u16, places[k], b)?;
-        column += 1;
+    rt.print(name)?;
+    for k in 16 * row..16 * row + 16 {
+        print_entry(k, places[k as usize])?;
     }
     rt.print("\n")
 }
 
-fn print_row(rt: &impl Print, places: &[u16; 288], row: usize, b: u16) -> io::Result<()>
+// The four lines of a row of sixteen bits, where a carrier has b bits.
+fn print_row(rt: &impl Print, places: &[u16; 288], row: u16, b: u16) -> io::Result<()>
     requires { (row < 18) × (1 ≤ b) × (b ≤ 6) }
 {
-    print_line(rt, Line::Bit, places, row, b)?;
-    print_line(rt, Line::Place, places, row, b)?;
-    print_line(rt, Line::Carrier, places, row, b)?;
-    print_line(rt, Line::CarrierBit, places, row, b)?;
+    print_line(rt, "bit    ", places, row, |k, _| print_number(rt, k))?;
+    print_line(
+        rt,
+        "place  ",
+        places,
+        row,
+        |_, place| print_number(rt, place),
+    )?;
+    print_line(
+        rt,
+        "carrier",
+        places,
+        row,
+        |_, place| print_number(rt, place / b),
+    )?;
+    print_line(
+        rt,
+        "its bit",
+        places,
+        row,
+        |_, place| print_carrier_bit(rt, carrier_bit(place, b)),
+    )?;
     rt.print("\n")
 }
 
@@ -91,7 +79,7 @@ fn name_of(c: Constellation) -> &'static str {
     }
 }
 
-fn print_title(rt: &impl Print, c: Constellation, size: usize, b: u16) -> io::Result<()> {
+fn print_title(rt: &impl Print, c: Constellation, size: u16, b: u16) -> io::Result<()> {
     let name = name_of(c);
     print!(rt; "{name}: symbols of {size} bits, {b} to a carrier\n\n")
 }
@@ -99,12 +87,10 @@ fn print_title(rt: &impl Print, c: Constellation, size: usize, b: u16) -> io::Re
 fn print_symbol(rt: &impl Print, c: Constellation) -> io::Result<()> {
     let places = places::symbol_places(c);
     let b = modes::bits_per_carrier(c) as u16;
-    let size = 48 * b as usize;
+    let size = 48 * b;
     print_title(rt, c, size, b)?;
-    let mut row = 0;
-    while row < size / 16 {
+    for row in 0..size / 16 {
         print_row(rt, &places, row, b)?;
-        row += 1;
     }
     Ok(())
 }
