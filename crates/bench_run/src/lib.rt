@@ -18,7 +18,8 @@ fn print_line(rt: &impl Print, k: u64, line: Line) -> io::Result<()> {
     )
 }
 
-// Reads until all of the bytes have come or the input has ended; how many came.
+// Reads until all of the bytes have come or the input has ended; how many came. A loop, since std's `read_exact` says little of an
+// input that ends early, and each turn goes on by as many bytes as came.
 pub fn read_full<R: Read>(input: &mut R, bytes: &mut [u8]) -> io::Result<usize>
     ensures fits { IfOk result (λ n. n ≤ length bytes.new) }
     ensures came { IfOk result (λ n. Consumes (R.remaining input.old) (R.remaining input.new) (take n bytes.new)) }
@@ -35,26 +36,15 @@ pub fn read_full<R: Read>(input: &mut R, bytes: &mut [u8]) -> io::Result<usize>
     Ok(got)
 }
 
-// Reads record k and prints its line; false where the input has ended.
-fn next<R: Read>(rt: &impl Print, input: &mut R, k: u64) -> io::Result<bool> {
-    let mut bytes = [0u8; 60];
-    let got = read_full(input, &mut bytes)?;
-    if got == 0 {
-        return Ok(false);
-    }
-    if got < 60 {
-        print_line(rt, k, record::refused(10))?;
-        return Ok(false);
-    }
-    print_line(rt, k, record::line_of(&bytes))?;
-    Ok(true)
-}
-
+// Prints a line for each record; of one that is cut off, where the input ends too, that it is refused.
 pub fn run(rt: &(impl Input + Print)) -> io::Result<()> {
     let mut input = rt.reader();
     for k in 0..u64::MAX {
-        if !next(rt, &mut input, k)? {
-            break;
+        let mut bytes = [0u8; 60];
+        match read_full(&mut input, &mut bytes)? {
+            60 => print_line(rt, k, record::line_of(&bytes))?,
+            0 => return Ok(()),
+            _ => return print_line(rt, k, record::refused(10)),
         }
     }
     Ok(())
