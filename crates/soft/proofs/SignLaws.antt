@@ -22,7 +22,7 @@ abbrev high : ℤ → ℤ
 high r = to_z w32 (of_z w32 (wide r +ℤ pos 32768))
 
 module _ (r : ℤ) (fits : SFits w16 r) where
-  pub wide_fits : SFits w32 (to_z w16 (of_z w16 r))
+  wide_fits : SFits w32 (to_z w16 (of_z w16 r))
   wide_fits = rw (kept w16 r fits.sfits refl) (record { sfits = omega (arith, fits.sfits) })
 
   sum_is : wide r +ℤ pos 32768 ≡ pos (counted 32768 r)

@@ -18,7 +18,7 @@ use modes::Constellation;
 fn raised(r: i16) -> u32
     ensures { result ≡ counted 32768 r }
 {
-    (r as i32 + 32768) as u32
+    (i32::from(r) + 32768) as u32
 }
 
 // A reading held, counted from -2,048.
@@ -84,7 +84,7 @@ impl Held {
     }
 }
 
-// A soft byte that was counted from -128.
+// A soft byte that was counted from -128. It is cast: `i8::try_from` would have an error that no x here has.
 fn lowered(x: u32) -> i8
     requires { x < 256 }
     ensures { result ≡ pos x -ℤ pos 128 }
