@@ -20,135 +20,41 @@
 // that is expected.
 #![tactic(auto)]
 
-mod bytes;
+mod description;
 mod far;
+mod hexadecimal;
 mod inputs;
+mod near;
 mod shown;
-mod signed;
 mod words;
 
 ghost use Rattle.std.specs.Prelude.{◌≡◌, length};
 
-use shown::{MARK, MARK_READING};
 use std::io;
-use words::{Description, Field, Pdus};
+use words::Words;
 
-fn show_encode(rt: &impl Print, d: Description, octets: &[u8], sent: &mut [u8]) -> io::Result<()> {
-    let kind = d.kind;
-    let pdus = d.pdus;
-    let modes = pdus.modes;
-    let lengths = pdus.lengths;
-    let refusal = modem::encode(
-        kind, pdus.count, &modes, &lengths, d.counter, d.a, octets, sent,
-    );
-    rt.print(refusal)?;
-    shown::bits(rt, sent)
-}
-
-fn encode(rt: &impl Print, text: &[u8], f: Field) -> io::Result<Field> {
-    let d = words::described(text, f);
-    let mut octets = bytes::room();
-    let given = bytes::list(text, d.last, &mut octets);
-    let room = words::room(text, given);
-    if !room.good {
-        return Ok(room);
+// Does what the words at the front ask for; None where they are no command.
+fn command(rt: &impl Print, words: &mut Words) -> Option<io::Result<()>> {
+    match words.word()? {
+        "encode" => near::encode(rt, words),
+        "inputs" => inputs::inputs(rt, words),
+        "ideal" => near::ideal(rt, words),
+        "mapped" => near::mapped(rt, words),
+        "soften" => far::soften(rt, words),
+        "decode_soft" => far::decode_soft(rt, words),
+        "decode_readings" => far::decode_readings(rt, words),
+        _ => None,
     }
-    let many = given.value;
-    let size = room.value;
-    let mut sent = [MARK; 7000];
-    show_encode(rt, d, &octets[0..many], &mut sent[0..size])?;
-    Ok(room)
-}
-
-fn show_ideal(
-    rt: &impl Print,
-    pdus: Pdus,
-    sent: &[u8],
-    i: &mut [i16],
-    q: &mut [i16],
-) -> io::Result<()> {
-    let modes = pdus.modes;
-    let lengths = pdus.lengths;
-    let refusal = modem::ideal(pdus.count, &modes, &lengths, sent, i, q);
-    print!(rt; "{refusal} i")?;
-    shown::readings(rt, i)?;
-    rt.print(" q")?;
-    shown::readings(rt, q)
-}
-
-fn ideal(rt: &impl Print, text: &[u8], f: Field) -> io::Result<Field> {
-    let pdus = words::pdus_of(text, f);
-    let mut sent = bytes::room();
-    let given = bytes::list(text, pdus.last, &mut sent);
-    let room_i = words::room(text, given);
-    let room_q = words::room(text, room_i);
-    if !room_q.good {
-        return Ok(room_q);
-    }
-    let many = given.value;
-    let size_i = room_i.value;
-    let size_q = room_q.value;
-    let mut i = [MARK_READING; 7000];
-    let mut q = [MARK_READING; 7000];
-    show_ideal(
-        rt,
-        pdus,
-        &sent[0..many],
-        &mut i[0..size_i],
-        &mut q[0..size_q],
-    )?;
-    Ok(room_q)
-}
-
-fn mapped(rt: &impl Print, text: &[u8], f: Field) -> io::Result<Field> {
-    let mode = words::number(text, f);
-    let group = words::number(text, mode);
-    if !group.good {
-        return Ok(group);
-    }
-    let answer = modem::mapped(mode.value as u32, group.value as u32);
-    let point = answer.point;
-    rt.print(answer.refusal)?;
-    shown::float(rt, point.i)?;
-    shown::float(rt, point.q)?;
-    Ok(group)
-}
-
-// Does what the line at `at` asks for.
-fn command(rt: &impl Print, text: &[u8], at: usize) -> io::Result<Field> {
-    let name = words::word(text, at);
-    let f = Field {
-        value: 0,
-        at: words::after(text, at),
-        good: true,
-    };
-    if name == b"encode".as_slice() {
-        return encode(rt, text, f);
-    }
-    if name == b"inputs".as_slice() {
-        return inputs::inputs(rt, text, f);
-    }
-    if name == b"ideal".as_slice() {
-        return ideal(rt, text, f);
-    }
-    if name == b"mapped".as_slice() {
-        return mapped(rt, text, f);
-    }
-    far::command(rt, text, name, f)
 }
 
 fn run(rt: &impl Print, text: &[u8]) -> io::Result<()> {
-    let mut at = 0;
-    while at < text.len() {
-        let done = command(rt, text, at)?;
-        if !done.good {
-            return Ok(());
+    let mut words = Words::new(text);
+    // a command has a word at least, so there are no more commands than bytes
+    for _ in text {
+        match command(rt, &mut words) {
+            Some(printed) => printed?,
+            None => break,
         }
-        if done.at <= at {
-            return Ok(());
-        }
-        rt.print("\n")?;
-        at = done.at;
     }
     Ok(())
 }

@@ -1,0 +1,40 @@
+// The commands of the near end: sending, and what is sent as points.
+use crate::shown::{MARK, MARK_READING, Sent, Spaced, pattern};
+use crate::words::Words;
+use std::io;
+
+pub(crate) fn encode(rt: &impl Print, words: &mut Words) -> Option<io::Result<()>> {
+    let d = words.description()?;
+    let octets = words.octets()?;
+    let mut sent = [MARK; 7000];
+    let sent = sent.get_mut(..words.room()?)?;
+    let refusal = modem::encode(
+        d.kind,
+        d.pdus.count,
+        &d.pdus.modes,
+        &d.pdus.lengths,
+        d.counter,
+        d.a,
+        &octets,
+        sent,
+    );
+    Some(println!(rt; "{refusal}{}", Sent(sent)))
+}
+
+pub(crate) fn ideal(rt: &impl Print, words: &mut Words) -> Option<io::Result<()>> {
+    let pdus = words.pdus()?;
+    let sent = words.octets()?;
+    let mut i = [MARK_READING; 7000];
+    let i = i.get_mut(..words.room()?)?;
+    let mut q = [MARK_READING; 7000];
+    let q = q.get_mut(..words.room()?)?;
+    let refusal = modem::ideal(pdus.count, &pdus.modes, &pdus.lengths, &sent, i, q);
+    Some(println!(rt; "{refusal} i{} q{}", Spaced(i), Spaced(q)))
+}
+
+pub(crate) fn mapped(rt: &impl Print, words: &mut Words) -> Option<io::Result<()>> {
+    let answer = modem::mapped(words.number()?, words.number()?);
+    let i = pattern(answer.point.i);
+    let q = pattern(answer.point.q);
+    Some(println!(rt; "{} {i:08x} {q:08x}", answer.refusal))
+}
