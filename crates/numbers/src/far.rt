@@ -1,5 +1,5 @@
 // The commands of the far end: soft bytes, and decoding.
-use crate::shown::{Decoded, MARK, MARK_SOFT, MARK_WORD, Spaced};
+use crate::shown::{Decoded, MARK, MARK_SOFT, MARK_WORD, MOST, Spaced};
 use crate::words::Words;
 use modem::Answer;
 use std::io;
@@ -8,13 +8,13 @@ pub(crate) fn soften(rt: &impl Print, words: &mut Words) -> Option<io::Result<()
     let pdus = words.pdus()?;
     let i = words.readings()?;
     let q = words.readings()?;
-    let mut soft = [MARK_SOFT; 7000];
+    let mut soft = [MARK_SOFT; MOST];
     let soft = soft.get_mut(..words.room()?)?;
     let refusal = modem::soften(pdus.count, &pdus.modes, &pdus.lengths, &i, &q, soft);
     Some(println!(rt; "{refusal}{}", Spaced(soft)))
 }
 
-// Lends what is asked for to a decode, and shows what it answers.
+// Lends a decode as many octets and words as the words say, and shows what it answers.
 fn decode<F: FnOnce(&mut [u8], &mut [u64]) -> Answer>(
     rt: &impl Print,
     words: &mut Words,
@@ -22,19 +22,16 @@ fn decode<F: FnOnce(&mut [u8], &mut [u64]) -> Answer>(
 ) -> Option<io::Result<()>>
     requires { F.IsAlwaysCallable decoded_into }
 {
-    let mut octets = [MARK; 7000];
+    let mut octets = [MARK; MOST];
     let octets = octets.get_mut(..words.room()?)?;
-    let mut working = [MARK_WORD; 7000];
+    let mut working = [MARK_WORD; MOST];
     let working = working.get_mut(..words.room()?)?;
     let answer = decoded_into(octets, working);
-    Some(println!(rt;
-        "{}",
-        Decoded {
-            answer,
-            octets,
-            working
-        }
-    ))
+    Some(rt.println(Decoded {
+        answer,
+        octets,
+        working,
+    }))
 }
 
 pub(crate) fn decode_soft(rt: &impl Print, words: &mut Words) -> Option<io::Result<()>> {

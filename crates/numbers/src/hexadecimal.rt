@@ -5,7 +5,7 @@ ghost use Rattle.std.specs.Prelude.{◌<◌};
 use crate::words::Words;
 use arrayvec::ArrayVec;
 
-// Only lower case is a digit here, so `to_digit` would take more.
+// `to_digit` would take upper case too.
 fn digit(byte: u8) -> Option<u8> {
     match byte {
         b'0'..=b'9' => Some(byte - b'0'),
@@ -31,13 +31,13 @@ fn reading(digits: &[u8]) -> Option<i16> {
 }
 
 impl Words<'_> {
-    // What a word lists, `digits` digits for each; a dash stands for none.
+    // What a word lists, `width` digits for each; a dash stands for none. More than N are not taken.
     fn list<T: Default + Drop, F: Fn(&[u8]) -> Option<T>, const N: usize>(
         &mut self,
-        digits: usize,
+        width: usize,
         written_by: F,
     ) -> Option<ArrayVec<T, N>>
-        requires some { 0 < digits }
+        requires some { 0 < width }
         requires callable { F.IsAlwaysCallable written_by }
     {
         let word = self.word()?;
@@ -45,7 +45,7 @@ impl Words<'_> {
         if word == "-" {
             return Some(list);
         }
-        for digits in word.as_bytes().chunks(digits) {
+        for digits in word.as_bytes().chunks(width) {
             list.try_push(written_by(digits)?).ok()?;
         }
         Some(list)

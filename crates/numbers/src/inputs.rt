@@ -1,23 +1,23 @@
 // The command `inputs`: the octets, which are all of the train, through the scrambler, and the zeros behind them.
 ghost use Rattle.std.specs.Prelude.{◌≤◌, length};
 
-use crate::shown::{Digits, MARK};
+use crate::shown::{Digits, MARK, MOST};
 use crate::words::Words;
 use modes::Kind;
 use std::io;
 
-// Puts the first inputs of the encoder into their places.
+// Puts the first inputs of the encoder into their places. The scrambler is begun at the first bit that it changes.
 fn fill(kind: Kind, counter: u32, octets: &[u8], inputs: &mut [u8])
     requires { (counter ≤ 15) × (length octets.now ≤ 14000) }
 {
     let first = modes::first_scrambled(kind);
-    let n = 8 * octets.len();
+    let bits = 8 * octets.len();
     let mut state = 0;
     for (t, input) in inputs.iter_mut().enumerate() {
         if t == first {
             state = 112 + counter;
         }
-        *input = coder::input_bit(octets, n, t, state) as u8;
+        *input = coder::input_bit(octets, bits, t, state) as u8;
         state = coder::shifted_from(state);
     }
 }
@@ -29,8 +29,8 @@ pub(crate) fn inputs(rt: &impl Print, words: &mut Words) -> Option<io::Result<()
         return None;
     }
     let octets = words.octets()?;
-    let mut inputs = [MARK; 7000];
+    let mut inputs = [MARK; MOST];
     let inputs = inputs.get_mut(..words.room()?)?;
     fill(kind, counter, &octets, inputs);
-    Some(println!(rt; "{}", Digits(inputs)))
+    Some(rt.println(Digits(inputs)))
 }

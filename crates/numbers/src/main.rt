@@ -28,12 +28,10 @@ mod near;
 mod shown;
 mod words;
 
-ghost use Rattle.std.specs.Prelude.{◌≡◌, length};
-
 use std::io;
 use words::Words;
 
-// Does what the words at the front ask for; None where they are no command.
+// Does what the next words ask for, and says how printing went; None where they are no command.
 fn command(rt: &impl Print, words: &mut Words) -> Option<io::Result<()>> {
     match words.word()? {
         "encode" => near::encode(rt, words),
@@ -51,22 +49,16 @@ fn run(rt: &impl Print, text: &[u8]) -> io::Result<()> {
     let mut words = Words::new(text);
     // a command has a word at least, so there are no more commands than bytes
     for _ in text {
-        match command(rt, &mut words) {
-            Some(printed) => printed?,
-            None => break,
-        }
+        let Some(printed) = command(rt, &mut words) else {
+            break;
+        };
+        printed?;
     }
     Ok(())
 }
 
-fn text_room() -> [u8; 262144]
-    ensures { length result ≡ 262144 }
-{
-    [0; 262144]
-}
-
 fn main(rt: HostRuntime) -> io::Result<()> {
-    let mut text = text_room();
+    let mut text = [0; 262144];
     let n = bench_run::read_full(&mut rt.reader(), &mut text)?;
     run(&rt, &text[..n])
 }

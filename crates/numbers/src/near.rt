@@ -1,12 +1,12 @@
 // The commands of the near end: sending, and what is sent as points.
-use crate::shown::{MARK, MARK_READING, Sent, Spaced, pattern};
+use crate::shown::{MARK, MARK_READING, MOST, Sent, Spaced, pattern};
 use crate::words::Words;
 use std::io;
 
 pub(crate) fn encode(rt: &impl Print, words: &mut Words) -> Option<io::Result<()>> {
     let d = words.description()?;
     let octets = words.octets()?;
-    let mut sent = [MARK; 7000];
+    let mut sent = [MARK; MOST];
     let sent = sent.get_mut(..words.room()?)?;
     let refusal = modem::encode(
         d.kind,
@@ -24,9 +24,9 @@ pub(crate) fn encode(rt: &impl Print, words: &mut Words) -> Option<io::Result<()
 pub(crate) fn ideal(rt: &impl Print, words: &mut Words) -> Option<io::Result<()>> {
     let pdus = words.pdus()?;
     let sent = words.octets()?;
-    let mut i = [MARK_READING; 7000];
+    let mut i = [MARK_READING; MOST];
     let i = i.get_mut(..words.room()?)?;
-    let mut q = [MARK_READING; 7000];
+    let mut q = [MARK_READING; MOST];
     let q = q.get_mut(..words.room()?)?;
     let refusal = modem::ideal(pdus.count, &pdus.modes, &pdus.lengths, &sent, i, q);
     Some(println!(rt; "{refusal} i{} q{}", Spaced(i), Spaced(q)))

@@ -4,7 +4,9 @@ ghost use Rattle.std.specs.Prelude.{◌≤◌, length};
 
 use modem::Answer;
 use std::fmt;
-use std::fmt::Display;
+
+// The most elements that are lent.
+pub(crate) const MOST: usize = 7000;
 
 // No bit, no ideal reading and no working word that is left has this value.
 pub(crate) const MARK: u8 = 7;
@@ -20,7 +22,7 @@ pub(crate) const MARK_SOFT: i8 = 100;
 #[derive(Drop)]
 pub(crate) struct Digits<'a>(pub(crate) &'a [u8]);
 
-impl Display for Digits<'_> {
+impl fmt::Display for Digits<'_> {
     fn fmt<W: fmt::Write>(&self, f: &mut fmt::Formatter<W>) -> fmt::Result {
         for bit in self.0 {
             write!(f, "{bit}")?;
@@ -33,7 +35,7 @@ impl Display for Digits<'_> {
 #[derive(Drop)]
 pub(crate) struct Sent<'a>(pub(crate) &'a [u8]);
 
-impl Display for Sent<'_> {
+impl fmt::Display for Sent<'_> {
     fn fmt<W: fmt::Write>(&self, f: &mut fmt::Formatter<W>) -> fmt::Result {
         if self.0.is_empty() {
             return Ok(());
@@ -46,7 +48,7 @@ impl Display for Sent<'_> {
 #[derive(Drop)]
 pub(crate) struct Spaced<'a, T>(pub(crate) &'a [T]);
 
-impl<T: Display> Display for Spaced<'_, T> {
+impl<T: fmt::Display> fmt::Display for Spaced<'_, T> {
     fn fmt<W: fmt::Write>(&self, f: &mut fmt::Formatter<W>) -> fmt::Result {
         for number in self.0 {
             write!(f, " {number}")?;
@@ -58,7 +60,7 @@ impl<T: Display> Display for Spaced<'_, T> {
 #[derive(Drop)]
 struct Octets<'a>(&'a [u8]);
 
-impl Display for Octets<'_> {
+impl fmt::Display for Octets<'_> {
     fn fmt<W: fmt::Write>(&self, f: &mut fmt::Formatter<W>) -> fmt::Result {
         for octet in self.0 {
             write!(f, "{octet:02x}")?;
@@ -81,7 +83,7 @@ fn leading(words: &[u64], value: u64) -> usize
 #[derive(Drop)]
 struct Working<'a>(&'a [u64]);
 
-impl Display for Working<'_> {
+impl fmt::Display for Working<'_> {
     fn fmt<W: fmt::Write>(&self, f: &mut fmt::Formatter<W>) -> fmt::Result {
         let words = self.0;
         let zeros = leading(words, 0);
@@ -98,7 +100,7 @@ pub(crate) struct Decoded<'a> {
     pub(crate) working: &'a [u64],
 }
 
-impl Display for Decoded<'_> {
+impl fmt::Display for Decoded<'_> {
     fn fmt<W: fmt::Write>(&self, f: &mut fmt::Formatter<W>) -> fmt::Result {
         let a = &self.answer;
         let mark = char::from(record::mark_of(a.refusal, a.confirmed));
