@@ -35,16 +35,16 @@ fn decode<F: FnOnce(&mut [u8], &mut [u64]) -> Answer>(
 }
 
 pub(crate) fn decode_soft(rt: &impl Print, words: &mut Words) -> Option<io::Result<()>> {
-    let d = words.description()?;
+    let train = words.description()?;
     let soft = words.soft_bytes()?;
     decode(rt, words, |octets, working| {
         modem::decode_soft(
-            d.kind,
-            d.pdus.count,
-            &d.pdus.modes,
-            &d.pdus.lengths,
-            d.counter,
-            d.a,
+            train.kind,
+            train.pdus.count,
+            &train.pdus.modes,
+            &train.pdus.lengths,
+            train.counter,
+            train.a,
             &soft,
             octets,
             working,
@@ -53,17 +53,17 @@ pub(crate) fn decode_soft(rt: &impl Print, words: &mut Words) -> Option<io::Resu
 }
 
 pub(crate) fn decode_readings(rt: &impl Print, words: &mut Words) -> Option<io::Result<()>> {
-    let d = words.description()?;
+    let train = words.description()?;
     let i = words.readings()?;
     let q = words.readings()?;
     decode(rt, words, |octets, working| {
         modem::decode_readings(
-            d.kind,
-            d.pdus.count,
-            &d.pdus.modes,
-            &d.pdus.lengths,
-            d.counter,
-            d.a,
+            train.kind,
+            train.pdus.count,
+            &train.pdus.modes,
+            &train.pdus.lengths,
+            train.counter,
+            train.a,
             &i,
             &q,
             octets,

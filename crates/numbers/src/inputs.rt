@@ -1,7 +1,7 @@
 // The command `inputs`: the octets, which are all of the train, through the scrambler, and the zeros behind them.
 ghost use Rattle.std.specs.Prelude.{◌≤◌, length};
 
-use crate::shown::{Digits, MARK, MOST};
+use crate::shown::{Bits, MARK, MOST};
 use crate::words::Words;
 use modes::Kind;
 use std::io;
@@ -32,5 +32,5 @@ pub(crate) fn inputs(rt: &impl Print, words: &mut Words) -> Option<io::Result<()
     let mut inputs = [MARK; MOST];
     let inputs = inputs.get_mut(..words.room()?)?;
     fill(kind, counter, &octets, inputs);
-    Some(rt.println(Digits(inputs)))
+    Some(rt.println(Bits(inputs)))
 }

@@ -4,17 +4,17 @@ use crate::words::Words;
 use std::io;
 
 pub(crate) fn encode(rt: &impl Print, words: &mut Words) -> Option<io::Result<()>> {
-    let d = words.description()?;
+    let train = words.description()?;
     let octets = words.octets()?;
     let mut sent = [MARK; MOST];
     let sent = sent.get_mut(..words.room()?)?;
     let refusal = modem::encode(
-        d.kind,
-        d.pdus.count,
-        &d.pdus.modes,
-        &d.pdus.lengths,
-        d.counter,
-        d.a,
+        train.kind,
+        train.pdus.count,
+        &train.pdus.modes,
+        &train.pdus.lengths,
+        train.counter,
+        train.a,
         &octets,
         sent,
     );

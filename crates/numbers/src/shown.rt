@@ -20,9 +20,9 @@ pub(crate) const MARK_SOFT: i8 = 100;
 
 // Bits, a digit each.
 #[derive(Drop)]
-pub(crate) struct Digits<'a>(pub(crate) &'a [u8]);
+pub(crate) struct Bits<'a>(pub(crate) &'a [u8]);
 
-impl fmt::Display for Digits<'_> {
+impl fmt::Display for Bits<'_> {
     fn fmt<W: fmt::Write>(&self, f: &mut fmt::Formatter<W>) -> fmt::Result {
         for bit in self.0 {
             write!(f, "{bit}")?;
@@ -40,7 +40,7 @@ impl fmt::Display for Sent<'_> {
         if self.0.is_empty() {
             return Ok(());
         }
-        write!(f, " {}", Digits(self.0))
+        write!(f, " {}", Bits(self.0))
     }
 }
 
@@ -102,16 +102,16 @@ pub(crate) struct Decoded<'a> {
 
 impl fmt::Display for Decoded<'_> {
     fn fmt<W: fmt::Write>(&self, f: &mut fmt::Formatter<W>) -> fmt::Result {
-        let a = &self.answer;
-        let mark = char::from(record::mark_of(a.refusal, a.confirmed));
+        let answer = &self.answer;
+        let mark = char::from(record::mark_of(answer.refusal, answer.confirmed));
         write!(
             f,
             "{} {} {} {} {mark} {} {} {}",
-            a.refusal,
-            a.symbols,
-            a.n,
-            a.cost,
-            a.comparisons,
+            answer.refusal,
+            answer.symbols,
+            answer.n,
+            answer.cost,
+            answer.comparisons,
             Octets(self.octets),
             Working(self.working)
         )

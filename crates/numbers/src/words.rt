@@ -28,9 +28,9 @@ impl<'a> Words<'a> {
 
     pub(crate) fn word(&mut self) -> Option<&'a str> {
         let start = self.rest.iter().position(|byte| !is_gap(byte))?;
-        let (_, from_word) = self.rest.split_at(start);
-        let end = from_word.iter().position(is_gap).unwrap_or(from_word.len());
-        let (word, rest) = from_word.split_at(end);
+        let text = &self.rest[start..];
+        let end = text.iter().position(is_gap).unwrap_or(text.len());
+        let (word, rest) = text.split_at(end);
         self.rest = rest;
         str::from_utf8(word).ok()
     }
