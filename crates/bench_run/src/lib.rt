@@ -6,15 +6,18 @@
 ghost use Rattle.std.specs.Prelude.{◌<◌, ◌≤◌, length, take, IfOk};
 ghost use Rattle.std.specs.Io.KnownBytes.{Consumes, IsAtEnd};
 
+use modes::Refusal;
 use record::Line;
 use std::io;
 use std::io::Read;
 
-fn print_line(rt: &impl Print, k: u64, line: Line) -> io::Result<()> {
-    let mark = char::from(record::mark_of(line.refusal, line.confirmed));
+fn print_line(rt: &impl Print, k: u64, line: Result<Line, Refusal>) -> io::Result<()> {
+    let refusal = Refusal::answer(&line);
+    let mark = char::from(record::mark_of(line.map(|line| line.confirmed)));
+    let line = line.unwrap_or_default();
     println!(rt;
-        "{k} {} {} {} {} {mark}",
-        line.refusal, line.symbols, line.n, line.cost
+        "{k} {refusal} {} {} {} {mark}",
+        line.symbols, line.n, line.cost
     )
 }
 
@@ -44,7 +47,7 @@ pub fn run(rt: &(impl Input + Print)) -> io::Result<()> {
         match read_full(&mut input, &mut bytes)? {
             60 => print_line(rt, k, record::line_of(&bytes))?,
             0 => return Ok(()),
-            _ => return print_line(rt, k, record::refused(10)),
+            _ => return print_line(rt, k, Err(Refusal::Cut)),
         }
     }
     Ok(())

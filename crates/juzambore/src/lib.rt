@@ -6,7 +6,6 @@
 ghost use Rattle.std.specs.Prelude.{◌≡◌, ◌≤◌, eqb};
 ghost use Rattle.modes.specs.Kinds.{kind_of};
 ghost use Rattle.modes.specs.Pdus.{pdus_of};
-ghost use Rattle.modes.specs.Refusal.{answer_of};
 ghost use Rattle.modes.specs.Passed.{told};
 ghost use Rattle.modem.specs.Encode.{Encode};
 ghost use Rattle.modem.specs.Ideal.{Ideal};
@@ -66,16 +65,6 @@ fn described(
     }
 }
 
-// What a call without outputs of its own answers: 0, or the number of its refusal.
-fn number(answer: Result<(), Refusal>) -> u32
-    ensures { result ≡ answer_of answer }
-{
-    match answer {
-        Ok(()) => 0,
-        Err(refusal) => u32::from(refusal),
-    }
-}
-
 #[unsafe(no_mangle)]
 pub extern "C" fn juzambore_encode(
     kind: u32,
@@ -90,7 +79,7 @@ pub extern "C" fn juzambore_encode(
     ensures { Encode (kind_of kind) (pdus_of count modes.now lengths.now) counter a octets.now sent.old result sent.new }
 {
     let by = described(kind, count, modes, lengths, counter, a);
-    number(modem::encode(&by, octets, sent))
+    Refusal::answer(&modem::encode(&by, octets, sent))
 }
 
 #[unsafe(no_mangle)]
@@ -104,7 +93,7 @@ pub extern "C" fn juzambore_ideal(
 ) -> u32
     ensures { Ideal (pdus_of count modes.now lengths.now) sent.now i.old q.old result i.new q.new }
 {
-    number(modem::ideal(&listed(count, modes, lengths), sent, i, q))
+    Refusal::answer(&modem::ideal(&listed(count, modes, lengths), sent, i, q))
 }
 
 #[unsafe(no_mangle)]
@@ -136,7 +125,7 @@ pub extern "C" fn juzambore_soften(
 ) -> u32
     ensures { Soften (pdus_of count modes.now lengths.now) i.now q.now soft.old result soft.new }
 {
-    number(modem::soften(&listed(count, modes, lengths), i, q, soft))
+    Refusal::answer(&modem::soften(&listed(count, modes, lengths), i, q, soft))
 }
 
 // What a decode answers, its mark as 1 or 0; zero for all of it but the refusal where it is refused.

@@ -13,8 +13,8 @@ use crate::lent::{lent_tested, room_short};
 use modes::{Description, Kind, Refusal, Train};
 
 // What a decode tells: the symbols, the sent bits, the rounded cost, the mark, and the comparisons of two partial trains that the search
-// takes.
-#[derive(Clone, Copy, Debug, PartialEq, Eq)]
+// takes. Of a refused one all of it is zero, the default.
+#[derive(Clone, Copy, Debug, Default, PartialEq, Eq)]
 pub struct Answer {
     pub symbols: u32,
     pub n: u32,

@@ -18,6 +18,7 @@ ghost use Rattle.modes.specs.Passed.{ModeOf};
 pub use description::{Description, PduList};
 pub use kinds::first_scrambled;
 pub use refusal::Refusal;
+use std::fmt;
 pub use train::{Counts, Train};
 
 #[derive(Clone, Copy, Debug, Default, PartialEq, Eq)]
@@ -27,6 +28,17 @@ pub enum Constellation {
     Qpsk,
     Qam16,
     Qam64,
+}
+
+impl fmt::Display for Constellation {
+    fn fmt<W: fmt::Write>(&self, f: &mut fmt::Formatter<W>) -> fmt::Result {
+        f.write_str(match self {
+            Constellation::Bpsk => "BPSK",
+            Constellation::Qpsk => "QPSK",
+            Constellation::Qam16 => "16QAM",
+            Constellation::Qam64 => "64QAM",
+        })
+    }
 }
 
 #[derive(Clone, Copy, Debug, Default, PartialEq, Eq)]

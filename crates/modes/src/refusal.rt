@@ -1,6 +1,6 @@
 // Why a call is refused: document 01's table, and the numbers that the requests added to it.
 ghost use Rattle.std.specs.Prelude.{◌≡◌};
-ghost use Rattle.modes.specs.Refusal.{refusal_number};
+ghost use Rattle.modes.specs.Refusal.{refusal_number, answer_of};
 
 use std::fmt;
 
@@ -18,6 +18,18 @@ pub enum Refusal {
     Cut,
     List,
     Kind,
+}
+
+impl Refusal {
+    // What a call answers by number: 0 where it is done.
+    pub fn answer<T>(of: &Result<T, Refusal>) -> u32
+        ensures { result ≡ answer_of of.now }
+    {
+        match of {
+            Ok(_) => 0,
+            Err(refusal) => u32::from(*refusal),
+        }
+    }
 }
 
 // The number of document 01, which the C names answer and the programs print.

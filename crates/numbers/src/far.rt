@@ -1,21 +1,21 @@
 // The commands of the far end: soft bytes, and decoding.
 use crate::shown::{Decoded, MARK, MARK_SOFT, MARK_WORD, MOST, Spaced};
 use crate::words::Words;
-use modem::Answer;
+use modem::{Answer, Refusal};
 use std::io;
 
 pub(crate) fn soften(rt: &impl Print, words: &mut Words) -> Option<io::Result<()>> {
-    let pdus = words.pdus()?;
+    let list = words.list_of_pdus()?;
     let i = words.readings()?;
     let q = words.readings()?;
     let mut soft = [MARK_SOFT; MOST];
     let soft = soft.get_mut(..words.room()?)?;
-    let refusal = modem::soften(pdus.count, &pdus.modes, &pdus.lengths, &i, &q, soft);
+    let refusal = Refusal::answer(&modem::soften(&list, &i, &q, soft));
     Some(println!(rt; "{refusal}{}", Spaced(soft)))
 }
 
 // Lends a decode as many octets and words as the words say, and shows what it answers.
-fn decode<F: FnOnce(&mut [u8], &mut [u64]) -> Answer>(
+fn decode<F: FnOnce(&mut [u8], &mut [u64]) -> Result<Answer, Refusal>>(
     rt: &impl Print,
     words: &mut Words,
     decoded_into: F,
@@ -38,17 +38,7 @@ pub(crate) fn decode_soft(rt: &impl Print, words: &mut Words) -> Option<io::Resu
     let train = words.description()?;
     let soft = words.soft_bytes()?;
     decode(rt, words, |octets, working| {
-        modem::decode_soft(
-            train.kind,
-            train.pdus.count,
-            &train.pdus.modes,
-            &train.pdus.lengths,
-            train.counter,
-            train.a,
-            &soft,
-            octets,
-            working,
-        )
+        modem::decode_soft(&train, &soft, octets, working)
     })
 }
 
@@ -57,17 +47,6 @@ pub(crate) fn decode_readings(rt: &impl Print, words: &mut Words) -> Option<io::
     let i = words.readings()?;
     let q = words.readings()?;
     decode(rt, words, |octets, working| {
-        modem::decode_readings(
-            train.kind,
-            train.pdus.count,
-            &train.pdus.modes,
-            &train.pdus.lengths,
-            train.counter,
-            train.a,
-            &i,
-            &q,
-            octets,
-            working,
-        )
+        modem::decode_readings(&train, &i, &q, octets, working)
     })
 }

@@ -3,6 +3,7 @@ ghost use Rattle.std.specs.Prelude.{◌≤◌, length};
 
 use crate::shown::{Bits, MARK, MOST};
 use crate::words::Words;
+use coder::Scrambler;
 use modes::Kind;
 use std::io;
 
@@ -12,13 +13,12 @@ fn fill(kind: Kind, counter: u32, octets: &[u8], inputs: &mut [u8])
 {
     let first = modes::first_scrambled(kind);
     let bits = 8 * octets.len();
-    let mut state = 0;
+    let mut scrambler = Scrambler::resting();
     for (t, input) in inputs.iter_mut().enumerate() {
         if t == first {
-            state = 112 + counter;
+            scrambler = Scrambler::started(counter);
         }
-        *input = coder::input_bit(octets, bits, t, state) as u8;
-        state = coder::shifted_from(state);
+        *input = coder::input_bit(octets, bits, t, scrambler.step()) as u8;
     }
 }
 

@@ -2,7 +2,7 @@
 // is lent, so what a call did not write shows.
 ghost use Rattle.std.specs.Prelude.{◌≤◌, length};
 
-use modem::Answer;
+use modem::{Answer, Refusal};
 use std::fmt;
 
 // The most elements that are lent.
@@ -95,19 +95,19 @@ impl fmt::Display for Working<'_> {
 // A decode: its refusal, symbols, n and cost, its mark as the bench prints it, its comparisons, and what it left in the buffers.
 #[derive(Drop)]
 pub(crate) struct Decoded<'a> {
-    pub(crate) answer: Answer,
+    pub(crate) answer: Result<Answer, Refusal>,
     pub(crate) octets: &'a [u8],
     pub(crate) working: &'a [u64],
 }
 
 impl fmt::Display for Decoded<'_> {
     fn fmt<W: fmt::Write>(&self, f: &mut fmt::Formatter<W>) -> fmt::Result {
-        let answer = &self.answer;
-        let mark = char::from(record::mark_of(answer.refusal, answer.confirmed));
+        let refusal = Refusal::answer(&self.answer);
+        let mark = char::from(record::mark_of(self.answer.map(|answer| answer.confirmed)));
+        let answer = self.answer.unwrap_or_default();
         write!(
             f,
-            "{} {} {} {} {mark} {} {} {}",
-            answer.refusal,
+            "{refusal} {} {} {} {mark} {} {} {}",
             answer.symbols,
             answer.n,
             answer.cost,

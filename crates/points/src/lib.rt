@@ -27,7 +27,7 @@ const K10: f32 = 0.31622776;
 const K42: f32 = 0.15430336;
 
 // The transmitter's d for a carrier.
-#[derive(Drop)]
+#[derive(Clone, Copy, Debug, Default, PartialEq)]
 pub struct Point {
     pub i: f32,
     pub q: f32,

@@ -14,8 +14,9 @@ ghost use Rattle.record.specs.Said.{said, line_in, sure, Runs};
 use modem::{Description, Kind, PduList, Refusal};
 use modes::{Mode, Pdu, Train};
 
-// What the line of a record says that is not refused: its symbols, the sent bits, the rounded cost and the mark.
-#[derive(Clone, Copy, Debug, PartialEq, Eq)]
+// What the line of a record says that is not refused: its symbols, the sent bits, the rounded cost and the mark. Of
+// a refused one all of it is zero, the default.
+#[derive(Clone, Copy, Debug, Default, PartialEq, Eq)]
 pub struct Line {
     pub symbols: u32,
     pub n: u32,

@@ -70,25 +70,11 @@ fn print_row(rt: &impl Print, places: &[u16; 288], row: u16, b: u16) -> io::Resu
     rt.print("\n")
 }
 
-fn name_of(c: Constellation) -> &'static str {
-    match c {
-        Constellation::Bpsk => "BPSK",
-        Constellation::Qpsk => "QPSK",
-        Constellation::Qam16 => "16QAM",
-        Constellation::Qam64 => "64QAM",
-    }
-}
-
-fn print_title(rt: &impl Print, c: Constellation, size: u16, b: u16) -> io::Result<()> {
-    let name = name_of(c);
-    print!(rt; "{name}: symbols of {size} bits, {b} to a carrier\n\n")
-}
-
 fn print_symbol(rt: &impl Print, c: Constellation) -> io::Result<()> {
     let places = places::symbol_places(c);
     let b = modes::bits_per_carrier(c) as u16;
     let size = 48 * b;
-    print_title(rt, c, size, b)?;
+    print!(rt; "{c}: symbols of {size} bits, {b} to a carrier\n\n")?;
     for row in 0..size / 16 {
         print_row(rt, &places, row, b)?;
     }
@@ -102,8 +88,13 @@ fn main(rt: HostRuntime) -> io::Result<()> {
     rt.print(
         "the carrier's bit below that. All are counted from 0, but a carrier's bits are b1 to b6, b1 the earliest.\n\n",
     )?;
-    print_symbol(&rt, Constellation::Bpsk)?;
-    print_symbol(&rt, Constellation::Qpsk)?;
-    print_symbol(&rt, Constellation::Qam16)?;
-    print_symbol(&rt, Constellation::Qam64)
+    for c in [
+        Constellation::Bpsk,
+        Constellation::Qpsk,
+        Constellation::Qam16,
+        Constellation::Qam64,
+    ] {
+        print_symbol(&rt, c)?;
+    }
+    Ok(())
 }
