@@ -12,10 +12,11 @@ use Rattle.modes.specs.declared.train.Train.{Train}
 use Rattle.modes.specs.Kinds.{heeded}
 use Rattle.modes.specs.Pdus.{Pdu, length_of, symbols_of, carriers_of, sent_of}
 use Rattle.modes.specs.Refusals.{encode_described, decode_described}
+use Rattle.modes.specs.Description.{LegalList}
 use Rattle.modes.specs.Passed.{pdus_in, Describes}
 use Rattle.modes.proofs.KindLaws.{heeded_described}
 use Rattle.modes.proofs.SizeLaws.{symbols_of_within, sent_of_within}
-use Rattle.modes.proofs.DescriptionLaws.{legal}
+use Rattle.modes.proofs.DescriptionLaws.{fit_in}
 use Rattle.modem.specs.Encode.{sent_bit}
 use Rattle.modem.specs.Ideal.{list_i, list_q}
 use Rattle.modem.specs.Soften.{list_soft}
@@ -45,7 +46,7 @@ tallied ps t n symbols sent same en es eb =
 -- a Train is short
 pub train_short : (t : Train) → (length_of (pdus_in t) ≤ 3456) × (symbols_of (pdus_in t) ≤ 144) × (sent_of (pdus_in t) ≤ 6912)
 train_short t =
-    let fit = (legal t).fit in (
+    let fit = fit_in t in (
       fit.to_3456,
       omega (arith, symbols_of_within (pdus_in t) fit.each, fit.to_3456),
       omega (arith, sent_of_within (pdus_in t) fit.each, fit.to_3456),
@@ -56,6 +57,10 @@ pub train_carriers : (t : Train) {symbols : ℕ} → symbols ≡ symbols_of (pdu
 train_carriers t es = omega (arith, es, carriers_symbols (pdus_in t))
 
 module _ {kind : Kind} {ps : List Pdu} {counter a : ℕ} {t : Train} (holds : Describes kind ps counter a t) where
+  -- a description that passes has a legal Train
+  pub passed_legal : LegalList ps counter a → LegalList (pdus_in t) t.counter t.a
+  passed_legal legal = rw (holds.list_is, holds.counter_is, holds.a_is) legal
+
   -- what was sent by the Train's fields was sent by the description
   pub passed_sent : (octets sent sent' : List ℕ)
       → sent' ≡ filled (sent_of (pdus_in t)) (sent_bit t.kind (pdus_in t) t.counter t.a octets) sent

@@ -20,7 +20,7 @@ use Rattle.modes.specs.Passed.{pdus_in}
 use Rattle.modes.proofs.ModeLaws.{enums_back}
 use Rattle.modes.proofs.SizeLaws.{symbols_of_within, sent_of_within}
 use Rattle.modes.proofs.PduLaws.{sum_most, share, share_at}
-use Rattle.modes.proofs.DescriptionLaws.{pdu_at, count_in, legal, pdus_in_length, pdus_in_at, held_fit, held_sum, held_all}
+use Rattle.modes.proofs.DescriptionLaws.{pdu_at, count_in, fit_in, pdus_in_length, pdus_in_at, held_fit, held_sum, held_all}
 use Rattle.points.specs.Points.{Room}
 use Rattle.soft.specs.Soft.{rounded}
 use Rattle.soft.specs.Carriers.{exact_at, soft_at, Readings}
@@ -56,7 +56,7 @@ reached_none t = record { bits_is = refl; carriers_is = refl }
 
 module _ (t : Train) (k bits count : ℕ) (r : Reached t k bits count) where
   fit : FitList (pdus_in t)
-  fit = (legal t).fit
+  fit = fit_in t
 
   abbrev ps : List Pdu
   ps = pdus_in t

@@ -3,6 +3,7 @@ ghost use Rattle.std.specs.Prelude.{◌≡◌, true, ℕ, ◌+◌, ◌*◌, ◌<
 ghost use Rattle.modes.specs.Sizes.{octets_of};
 ghost use Rattle.modes.specs.Pdus.{length_of, sent_of};
 ghost use Rattle.modes.specs.Refusal.{answer_of};
+ghost use Rattle.modes.specs.Description.{LegalList};
 ghost use Rattle.modes.specs.Passed.{told, pdus_in};
 ghost use Rattle.soft.specs.Carriers.{all_soft};
 ghost use Rattle.modem.specs.Entering.{counter_in};
@@ -36,6 +37,7 @@ fn counter_of(kind: Kind, counter: u32, train: &[u8]) -> u32
 
 // Of all trains the one of least cost by the coded bits heard, as octets.
 fn pick(train: &Train, heard: &[u8], octets: &mut [u8], words: &mut [u64]) -> Answer
+    requires counter { train.now.counter ≤ 15 }
     requires heard_long { 2 * (length_of (pdus_in train.now) + 6) ≤ length heard.now }
     requires octets_room { octets_of (length_of (pdus_in train.now)) ≤ length octets.old }
     requires words_room { length_of (pdus_in train.now) + 6 ≤ length words.old }
@@ -60,6 +62,7 @@ fn pick(train: &Train, heard: &[u8], octets: &mut [u8], words: &mut [u64]) -> An
 
 // The same by soft bytes, when all has been tested: they go back to their coded bits, and what was not sent is not heard.
 pub(crate) fn find(train: &Train, soft: &[i8], octets: &mut [u8], words: &mut [u64]) -> Answer
+    requires legal { LegalList (pdus_in train.now) train.now.counter train.now.a }
     requires soft_fit { (length soft.now ≡ sent_of (pdus_in train.now)) × (all_soft soft.now ≡ true) }
     requires octets_room { octets_of (length_of (pdus_in train.now)) ≤ length octets.old }
     requires words_room { length_of (pdus_in train.now) + 6 ≤ length words.old }

@@ -13,6 +13,7 @@ ghost use Rattle.laws.specs.Lists.{filled};
 ghost use Rattle.modes.specs.Sizes.{octets_of};
 ghost use Rattle.modes.specs.Pdus.{length_of, carriers_of, sent_of};
 ghost use Rattle.modes.specs.Refusal.{answer_of};
+ghost use Rattle.modes.specs.Description.{LegalList};
 ghost use Rattle.modes.specs.Passed.{told, pdus_in};
 ghost use Rattle.modem.specs.Entering.{counter_other};
 ghost use Rattle.modem.specs.Encode.{sent_bit, Encode};
@@ -29,6 +30,7 @@ pub use readings::{decode_readings, soften};
 
 // The sent bits of a train, when all has been tested.
 fn send(train: &Train, octets: &[u8], sent: &mut [u8])
+    requires legal { LegalList (pdus_in train.now) train.now.counter train.now.a }
     requires octets_long { length octets.now ≡ octets_of (length_of (pdus_in train.now)) }
     requires sent_room { sent_of (pdus_in train.now) ≤ length sent.old }
     requires counter_same { counter_other train.now.kind train.now.counter octets.now ≡ false }

@@ -13,11 +13,11 @@ use Rattle.modes.specs.declared.Pdu as source
 use Rattle.modes.specs.declared.train.Train.{Train}
 use Rattle.modes.specs.Modes.{number, number_of}
 use Rattle.modes.specs.Pdus.{Pdu, pdu_of, pdus_of, sum_of, pdu_symbols, pdu_sent, length_of, symbols_of, sent_of}
-use Rattle.modes.specs.Description.{Fit, FitList, LegalList, held, Holds, no_pdu}
+use Rattle.modes.specs.Description.{Fit, FitList, held, Holds, no_pdu}
 use Rattle.modes.specs.Passed.{pdus_in}
 use Rattle.modes.proofs.ModeLaws.{number_back}
 use Rattle.modes.proofs.PduLaws.{pdus_of_length, pdus_of_at, fit_at, sum_take, sum_most, sum_all}
-use Rattle.modes.proofs.RefusalLaws.{list_legal}
+use Rattle.modes.proofs.RefusalLaws.{list_fit}
 use Rattle.modes.proofs.SizeLaws.{sent_of_within, symbols_of_within}
 
 -- PDU k of a train
@@ -28,10 +28,10 @@ pdu_at t k = get_or t.pdus.items k no_pdu
 abbrev pub count_in : Train → ℕ
 count_in t = length t.pdus.items
 
--- a train's list, counter and a are not refused
-pub legal : (t : Train) → LegalList (pdus_in t) t.counter t.a
+-- a train's list is not refused
+pub fit_in : (t : Train) → FitList (pdus_in t)
 unfolding pdus_in
-legal t = list_legal _ _ _ t.passed
+fit_in t = list_fit _ t.fit
 
 module _ (t : Train) where
   pub pdus_in_length : length (pdus_in t) ≡ count_in t
@@ -44,7 +44,7 @@ module _ (t : Train) where
     pdus_in_at d = get_or-map held t.pdus.items k no_pdu d h
 
     pub held_fit : Fit (number (pdu_at t k).mode) (pdu_at t k).n
-    held_fit = rw (pdus_in_at (pdu_of 0 0)) at (fit_at (pdus_in t) (legal t).fit.each k (pdu_of 0 0) (omega (arith, pdus_in_length)))
+    held_fit = rw (pdus_in_at (pdu_of 0 0)) at (fit_at (pdus_in t) (fit_in t).each k (pdu_of 0 0) (omega (arith, pdus_in_length)))
 
     -- a sum over one PDU more
     pub held_sum : (size : Pdu → ℕ) → sum_of size (take (k + 1) (pdus_in t)) ≡ sum_of size (take k (pdus_in t)) + size (held (pdu_at t k))
@@ -67,7 +67,7 @@ counted_none t = record { n_is = refl; symbols_is = refl; sent_is = refl }
 
 module _ (t : Train) (k n symbols sent : ℕ) (c : Counted t k n symbols sent) where
   fit : FitList (pdus_in t)
-  fit = (legal t).fit
+  fit = fit_in t
 
   pub counted_small : (n ≤ 3456) × (symbols ≤ 144) × (sent ≤ 6912)
   counted_small = (

@@ -10,9 +10,9 @@ use native.Mathlib.Omega.{arith}
 use lib.Dec.{T, ltb}
 use lib.ListN.{length, get_or, drop, drop_of_length-le}
 use lib.Seq.{drop-cons}
-use borrow.Author.Tests.{le-ltb, ltb-false, eqb-true, not-false}
+use borrow.Author.Tests.{le-ltb, ltb-false, eq-eqb, eqb-true, not-false}
 use Rattle.laws.specs.Ladder.{Rung, ◌when◌, ladder, given}
-use Rattle.laws.proofs.LadderLaws.{numbered, ladder_passed, ladder_stops, ladder_goes_on, ladder_idle, ladder_under, ladder_part, given_passed}
+use Rattle.laws.proofs.LadderLaws.{numbered, ladder_passed, ladder_stops, ladder_goes_on, ladder_idle, ladder_under, ladder_part, given_goes_on, given_passed}
 use Rattle.modes.specs.Modes.{info}
 use Rattle.modes.specs.Pdus.{Pdu, one, sum_of, length_of}
 use Rattle.modes.specs.Refusals.{outside, mode_unknown, counter_above, length_outside, not_octets, not_symbols, place_above, lengths, sized, described, modes_tests, list_tests, lengths_tests, list_sized, list_described}
@@ -184,6 +184,31 @@ list_fit ps h =
     let (tests, p) = given_passed _ _ (sym (sized_by ps) ∙ h) in
     let (lens, p) = given_passed _ _ p in
     fit_list ps tests lens (ladder_passed 2 _ _ p).0
+
+-- and a list that is so passes
+modes_pass : (ps : List Pdu) → EachFit ps → ladder (modes_tests ps) ≡ 0
+unfolding modes_tests EachFit ladder
+modes_pass [] each = refl
+modes_pass (p ∷ ps) (fit, each) = simp (le-ltb p.mode 1 fit.from_1, le-ltb 7 p.mode fit.to_7) (modes_pass ps each)
+
+lengths_pass : (ps : List Pdu) → EachFit ps → ladder (lengths_tests ps) ≡ 0
+unfolding lengths_tests EachFit lengths ladder
+lengths_pass [] each = refl
+lengths_pass (p ∷ ps) (fit, each) =
+    simp (le-ltb p.length 72 fit.from_72, le-ltb 3456 p.length fit.to_3456, eq-eqb _ _ fit.whole_octets, eq-eqb _ _ fit.whole_symbols) (lengths_pass ps each)
+
+pub first_long : (ps : List Pdu) → 1 ≤ length ps → EachFit ps → 72 ≤ length_of ps
+unfolding EachFit sum_of
+first_long [] some each = absurd (omega arith)
+first_long (p ∷ ps) some (fit, each) = omega (arith, fit.from_72)
+
+pub fit_sized : (ps : List Pdu) → FitList ps → ladder (list_sized ps) ≡ 0
+fit_sized ps fit =
+    let low = first_long ps fit.from_1 fit.each in
+    sized_by ps
+    ∙ given_goes_on _ _ (list_inside ps fit.from_1 fit.to_16 ∙ modes_pass ps fit.each)
+    ∙ given_goes_on _ _ (lengths_pass ps fit.each)
+    ∙ (unfold ladder in simp (le-ltb (length_of ps) 72 low, le-ltb 3456 (length_of ps) fit.to_3456) refl)
 
 pub list_legal : (ps : List Pdu) (counter a : ℕ) → ladder (list_described ps counter a) ≡ 0 → LegalList ps counter a
 list_legal ps counter a h =

@@ -1,7 +1,8 @@
-// A train that has passed the tests: its PDUs one after the other, each with its mode and length, and what is counted over all of them.
+// What has to be known of a train besides its octets: its PDUs one after the other, each with its mode and length, of a list that is not
+// refused; and what is counted over all of them.
 ghost use Rattle.std.specs.Prelude.{◌≡◌, map};
 ghost use Rattle.laws.specs.Ladder.{ladder};
-ghost use Rattle.modes.specs.Refusals.{list_described};
+ghost use Rattle.modes.specs.Refusals.{list_sized};
 ghost use Rattle.modes.specs.Description.{held};
 
 use crate::refusals::tested;
@@ -14,7 +15,7 @@ pub struct Train {
     pub pdus: ArrayVec<Pdu, 16>,
     pub counter: u32,
     pub a: usize,
-    pub ghost passed: { ladder (list_described (map held pdus.items) counter a) ≡ 0 },
+    pub ghost fit: { ladder (list_sized (map held pdus.items)) ≡ 0 },
 }
 
 // A train's information bits, symbols and sent bits, over all its PDUs.
@@ -28,22 +29,31 @@ pub struct Counts {
 impl Train {
     ghost use Rattle.modes.specs.Pdus.{length_of, symbols_of, sent_of};
     ghost use Rattle.modes.specs.Refusal.{answer_of};
-    ghost use Rattle.modes.specs.Refusals.{encode_described, list_sized};
+    ghost use Rattle.modes.specs.Refusals.{encode_described};
+    ghost use Rattle.modes.specs.Description.{FitList};
     ghost use Rattle.modes.specs.Passed.{told, pdus_in, Describes};
     ghost use Rattle.std.specs.Prelude.{IfOk};
 
-    // The train of a description, or what it is refused for.
+    // The train of a description whose list is not refused.
+    pub fn of(by: &Description) -> Train
+        requires { FitList (told by.now.list) }
+        ensures { Describes by.now.kind (told by.now.list) by.now.counter by.now.a result }
+    {
+        Train {
+            kind: by.kind,
+            pdus: by.list.pdus(),
+            counter: by.counter,
+            a: by.a as usize,
+        }
+    }
+
+    // The same, or what the description is refused for.
     pub fn described(by: &Description) -> Result<Train, Refusal>
         ensures answer { answer_of result ≡ ladder (encode_described by.now.kind (told by.now.list) by.now.counter by.now.a) }
         ensures done { IfOk result (Describes by.now.kind (told by.now.list) by.now.counter by.now.a) }
     {
         tested(by)?;
-        Ok(Train {
-            kind: by.kind,
-            pdus: by.list.pdus(),
-            counter: by.counter,
-            a: by.a as usize,
-        })
+        Ok(Train::of(by))
     }
 
     // The same in a call that has no kind, no counter and no a. With data and 0 for these, their tests refuse nothing.

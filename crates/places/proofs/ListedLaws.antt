@@ -19,7 +19,7 @@ use Rattle.modes.specs.Passed.{pdus_in}
 use Rattle.modes.proofs.ModeLaws.{by_enums}
 use Rattle.modes.proofs.SizeLaws.{symbols_exact, sent_of_within}
 use Rattle.modes.proofs.PduLaws.{sum_most}
-use Rattle.modes.proofs.DescriptionLaws.{pdu_at, count_in, pdus_in_length, pdus_in_at, legal, held_fit, held_sum, held_all}
+use Rattle.modes.proofs.DescriptionLaws.{pdu_at, count_in, pdus_in_length, pdus_in_at, fit_in, held_fit, held_sum, held_all}
 use Rattle.places.specs.Selection.{origin}
 use Rattle.places.specs.Puncture.{p1}
 use Rattle.places.specs.Trains.{pdu, pdus, listed}
@@ -51,7 +51,7 @@ module _ (t : Train) (k first at : ℕ) (b : Begins t k first at) where
   ps = pdus_in t
 
   fit : FitList (pdus_in t)
-  fit = (legal t).fit
+  fit = fit_in t
 
   -- no more than the whole train
   pub begins_small : (first ≤ 6912) × (at ≤ 6912) × (at ≤ sent_of (pdus_in t))
@@ -89,17 +89,17 @@ module _ (t : Train) (k first at : ℕ) (b : Begins t k first at) where
     share_inside : first + 2 * N ≤ 2 * length_of ps
     share_inside = omega (arith, b.first_is, held_sum t k h (λ p. p.length), sum_most (λ p. p.length) ps (k + 1))
 
-    pub pdu_room : (room : ℕ) → room + at ≡ 6912
+    pub pdu_room : (room : ℕ) → t.a + 72 ≤ length_of (pdus_in t) → room + at ≡ 6912
         → PduRoom (bits_of (pdu_at t k).mode.constellation) (pdu_at t k).mode.rate (symbols (number (pdu_at t k).mode) (pdu_at t k).n) t.a first room
-    pdu_room room er =
+    pdu_room room place er =
         let all = sent_by_enums c rate N pdu_fit in
         let whole = info_by_enums c rate N pdu_fit in
         let most = sent_of_within ps fit.each in
         record {
-          place = omega (arith, (legal t).inside, fit.to_3456);
+          place = omega (arith, place, fit.to_3456);
           few = omega (arith, all, sent_inside, most, fit.to_3456);
           room = omega (arith, all, sent_inside, most, fit.to_3456);
-          sources = pdu_sources c rate t.a first (symbols (number_of c rate) N) (length_of ps) 6924 (omega (arith, whole, share_inside)) fit.to_3456 (legal t).inside (omega (arith, fit.to_3456));
+          sources = pdu_sources c rate t.a first (symbols (number_of c rate) N) (length_of ps) 6924 (omega (arith, whole, share_inside)) fit.to_3456 place (omega (arith, fit.to_3456));
         }
 
     -- its sent bit q is the train's sent bit at + q
@@ -141,18 +141,19 @@ module _ (t : Train) (k first at : ℕ) (b : Begins t k first at) where
 pub begins_all : (t : Train) (k first at : ℕ) → Begins t k first at → count_in t ≤ k → at ≡ sent_of (pdus_in t)
 begins_all t k first at b h = b.at_is ∙ held_all t pdu_sent k h
 
--- a train's sent bits, and their origins
-module _ (t : Train) where
+-- a train's sent bits are not too many
+pub train_few : (t : Train) → sent_of (pdus_in t) ≤ 6912
+train_few t = omega (arith, sent_of_within (pdus_in t) (fit_in t).each, (fit_in t).to_3456)
+
+-- and their origins, with P1 inside the list
+module _ (t : Train) (inside : t.a + 72 ≤ length_of (pdus_in t)) where
   takes : Takes (listed (pdus_in t) t.a) (2 * (length_of (pdus_in t) + 6)) (sent_of (pdus_in t))
-  takes = takes_listed (pdus_in t) t.a (legal t).fit.each (legal t).inside
+  takes = takes_listed (pdus_in t) t.a (fit_in t).each inside
 
-  pub train_few : sent_of (pdus_in t) ≤ 6912
-  train_few = omega (arith, sent_of_within (pdus_in t) (legal t).fit.each, (legal t).fit.to_3456)
-
-  -- they are coded bits
+  -- are coded bits
   pub train_coded : (q : ℕ) → q < sent_of (pdus_in t) → origin (listed (pdus_in t) t.a) q < 2 * (length_of (pdus_in t) + 6)
-  train_coded q h = let (inside, _) = origin_place (listed (pdus_in t) t.a) takes q h in inside
+  train_coded q h = let (coded, _) = origin_place (listed (pdus_in t) t.a) takes q h in coded
 
-  -- and no two are the same
+  -- no two of which are the same
   pub train_apart : (p q : ℕ) → p < q → q < sent_of (pdus_in t) → origin (listed (pdus_in t) t.a) p ≡ origin (listed (pdus_in t) t.a) q → ⊥
   train_apart p q less h same = let once : p ≡ q = origin_once (listed (pdus_in t) t.a) _ _ takes p q (omega arith) h same in omega arith

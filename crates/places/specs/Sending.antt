@@ -6,7 +6,7 @@
 --   origin_of    the coded bit that is the PDU's sent bit q
 --   PduRoom      what the code asks of a PDU and of the length of what it is lent
 --   train_bit    sent bit q of a list of PDUs
---   TrainRoom    what the code asks of the lengths of what it is lent
+--   TrainRoom    what the code asks of a and of the lengths of what it is lent
 --   SpreadAll    the train's soft bytes, counted from -128, stand at their coded bits; all else is as it was
 -- Assumes nothing.
 use Rattle.std.specs.Prelude.{ℕ, ◌+◌, ◌*◌, ◌<◌, ◌≤◌, ◌≡◌, List, ℤ, pos, get_or}
@@ -47,8 +47,9 @@ pub record PduRoom (b : ℕ) (rate : Rate) (symbols a first lent : ℕ) : Type 0
 unfoldable pub train_bit : List Pdu → ℕ → List ℕ → ℕ → ℕ
 train_bit ps a coded q = get_or coded (origin (listed ps a) q) 0
 
--- so many coded bits are all of them, and there is room for the sent bits
-pub record TrainRoom (ps : List Pdu) (coded sent : ℕ) : Type 0 where
+-- P1 lies inside the list; so many coded bits are all of them, and there is room for the sent bits
+pub record TrainRoom (ps : List Pdu) (a coded sent : ℕ) : Type 0 where
+  pub inside : a + 72 ≤ length_of ps
   pub all_coded : 2 * (length_of ps + 6) ≤ coded
   pub room : sent_of ps ≤ sent
 

@@ -20,7 +20,7 @@ use origins::put_origins;
 
 // A train's sent bits at the front of `sent`, from its coded bits.
 pub fn send_train(train: &Train, coded: &[u8], sent: &mut [u8])
-    requires { TrainRoom (pdus_in train.now) (length coded.now) (length sent.old) }
+    requires { TrainRoom (pdus_in train.now) train.now.a (length coded.now) (length sent.old) }
     ensures { sent.new ≡ filled (sent_of (pdus_in train.now)) (train_bit (pdus_in train.now) train.now.a coded.now) sent.old }
 {
     let mut origins = [0; 6912];
@@ -39,7 +39,7 @@ fn counted_from(soft: i8) -> u8
 
 // A train's soft bytes at the coded bits that they are of, counted from -128. What was not sent keeps what stood there.
 pub fn spread_train(train: &Train, soft: &[i8], heard: &mut [u8])
-    requires { TrainRoom (pdus_in train.now) (length heard.old) (length soft.now) }
+    requires { TrainRoom (pdus_in train.now) train.now.a (length heard.old) (length soft.now) }
     ensures { SpreadAll (pdus_in train.now) train.now.a soft.now heard.old heard.new }
 {
     let mut origins = [0; 6912];

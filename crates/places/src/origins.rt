@@ -5,7 +5,7 @@ ghost use Rattle.laws.specs.Lists.{filled};
 ghost use Rattle.laws.specs.Scatter.{Seats, Scattered};
 ghost use Rattle.modes.specs.Modes.{bits_of, number};
 ghost use Rattle.modes.specs.Sizes.{symbols};
-ghost use Rattle.modes.specs.Pdus.{sent_of};
+ghost use Rattle.modes.specs.Pdus.{length_of, sent_of};
 ghost use Rattle.modes.specs.Description.{Fit};
 ghost use Rattle.modes.specs.Passed.{pdus_in};
 ghost use Rattle.places.specs.Selection.{origin};
@@ -51,6 +51,7 @@ fn put_pdu(pdu: Pdu, a: usize, first: usize, origins: &mut [u16])
 
 // A train, at the front of `origins`; how many sent bits it has.
 pub(crate) fn put_origins(train: &Train, origins: &mut [u16; 6912]) -> usize
+    requires { train.now.a + 72 ≤ length_of (pdus_in train.now) }
     ensures n { result ≡ sent_of (pdus_in train.now) }
     ensures put { origins.new ≡ filled (sent_of (pdus_in train.now)) (origin (listed (pdus_in train.now) train.now.a)) origins.old }
 {

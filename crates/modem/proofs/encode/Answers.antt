@@ -6,10 +6,11 @@ use borrow.Author.Tests.{eqb-true, ltb-false, not-false}
 use Rattle.std.proofs.lemmas.Result.{err_from_is_err_and}
 use Rattle.modes.specs.Sizes.{octets_of}
 use Rattle.modes.specs.Passed.{told}
+use Rattle.modes.proofs.KindLaws.{encode_legal}
 use Rattle.modes.proofs.RefusalNumbers.{above_0}
 use Rattle.modem.specs.Encode.{encode_refusal, Encode}
 use Rattle.modem.proofs.LentLaws.{lent_passed, described_refused, lent_refused, all_done}
-use Rattle.modem.proofs.PassedLaws.{Tallied, tallied, passed_sent}
+use Rattle.modem.proofs.PassedLaws.{Tallied, tallied, passed_legal, passed_sent}
 use Rattle.modem.proofs.encode.Goals.{After-counts-counts}
 use Rattle.modem.proofs.encode.Goals as goal
 
@@ -36,6 +37,7 @@ unfolding octets_of
 send-requires c =
     let holds = c.in_ok-train.ensures.done in
     let (wrong, short, other) = lent_passed 11 _ _ _ (sym c.in_ok-lent_tested.ensures) in record {
+      legal = passed_legal holds (encode_legal c.args.by.now.kind _ _ _ (sym c.in_ok-train.ensures.answer));
       octets_long = rw c.counts-counts.ensures.n at (eqb-true _ _ (not-false _ wrong));
       sent_room = omega (arith, c.counts-counts.ensures.sent, ltb-false _ _ short);
       counter_same = rw (holds.kind_is, holds.counter_is) (sym c.counter_other-other.ensures ∙ other);

@@ -1,7 +1,6 @@
 -- `modem::send`: the coded bits, and then the sent bits from them.
 -- Assumes nothing.
 use native.Mathlib.Omega.{arith}
-use Rattle.modes.proofs.DescriptionLaws.{legal}
 use Rattle.modem.proofs.SizeLaws.{octets_whole, octets_enough}
 use Rattle.modem.proofs.EnteringLaws.{first_few}
 use Rattle.modem.proofs.SendLaws.{train_sent}
@@ -9,7 +8,7 @@ use Rattle.modem.proofs.send.Goals as goal
 
 pub code-requires : goal.code-requires
 code-requires c =
-    let legal = legal c.args.train.now in
+    let legal = c.requires.legal in
     let n = c.counts-n.ensures.n in
     let all = legal.fit.to_3456 in (
       omega (arith, c.first_scrambled-first.ensures, first_few c.args.train.now.kind, n, legal.inside),
@@ -21,9 +20,9 @@ code-requires c =
 
 pub send_train-requires : goal.send_train-requires
 send_train-requires c =
-    let legal = legal c.args.train.now in
-    record { all_coded = omega (arith, legal.fit.to_3456); room = c.requires.sent_room }
+    let legal = c.requires.legal in
+    record { inside = legal.inside; all_coded = omega (arith, legal.fit.to_3456); room = c.requires.sent_room }
 
 pub returns : goal.returns
 returns c =
-    train_sent _ _ _ (legal c.args.train.now) _ _ _ _ _ _ _ _ c.counts-n.ensures.n c.first_scrambled-first.ensures c.requires.counter_same c.code.ensures c.send_train.ensures
+    train_sent _ _ _ c.requires.legal _ _ _ _ _ _ _ _ c.counts-n.ensures.n c.first_scrambled-first.ensures c.requires.counter_same c.code.ensures c.send_train.ensures

@@ -25,6 +25,9 @@ from c =
     ∙ ap (λ (l : List ℕ). get_or l c.loop-q.q 0) c.put_origins-n.ensures.put
     ∙ filled_at _ _ _ _ 0 (omega (arith, c.put_origins-n.ensures.n))
 
+pub put_origins-n-requires : goal.put_origins-n-requires
+put_origins-n-requires c = c.requires.inside
+
 pub loop-q-init : goal.loop-q-init
 loop-q-init c = sym (filled_none _ _)
 
@@ -33,7 +36,7 @@ bounds-origins-q c = omega (arith, c.put_origins-n.ensures.n, train_few c.args.t
 
 pub bounds-coded-from : goal.bounds-coded-from
 bounds-coded-from c =
-    omega (arith, from (goal.at.bounds-coded-from c).After-from, train_coded c.args.train.now c.loop-q.q (among (goal.at.bounds-coded-from c).In-loop-q), c.requires.all_coded)
+    omega (arith, from (goal.at.bounds-coded-from c).After-from, train_coded c.args.train.now c.requires.inside c.loop-q.q (among (goal.at.bounds-coded-from c).In-loop-q), c.requires.all_coded)
 
 pub loop-q-preserved : goal.loop-q-preserved
 unfolding train_bit

@@ -29,7 +29,10 @@ from c =
 
 -- its origin is a coded bit that was heard
 inside : (c : After-from) → origin (listed (pdus_in c.args.train.now) c.args.train.now.a) c.loop-q.q < length c.args.heard.now
-inside c = omega (arith, train_coded c.args.train.now c.loop-q.q (omega (arith, c.put_origins-n.ensures.n)), c.requires.all_coded)
+inside c = omega (arith, train_coded c.args.train.now c.requires.inside c.loop-q.q (omega (arith, c.put_origins-n.ensures.n)), c.requires.all_coded)
+
+pub put_origins-n-requires : goal.put_origins-n-requires
+put_origins-n-requires c = c.requires.inside
 
 pub loop-q-init : goal.loop-q-init
 loop-q-init c = placed_none _ _ _
@@ -50,7 +53,7 @@ loop-q-preserved c =
     (placed_again _ _ _ _ _ c.loop-q.invariant _
     (search rules)
     (inside turn)
-    (λ k h. train_apart c.args.train.now k c.loop-q.q h (among (goal.at.loop-q-preserved c).In-loop-q)))
+    (λ k h. train_apart c.args.train.now c.requires.inside k c.loop-q.q h (among (goal.at.loop-q-preserved c).In-loop-q)))
 
 pub returns : goal.returns
 unfolding SpreadAll

@@ -1,21 +1,23 @@
 -- `modem::decode::find`: soft bytes back to their coded bits, and the train that is then picked.
 -- Assumes nothing.
 use native.Mathlib.Omega.{arith}
-use Rattle.modes.proofs.DescriptionLaws.{legal}
 use Rattle.modem.proofs.HeardLaws.{all_heard, same_cost, same_differing}
 use Rattle.modem.proofs.PickLaws.{chosen_same}
 use Rattle.modem.proofs.decode.find.Goals as goal
 
 pub spread_train-requires : goal.spread_train-requires
 spread_train-requires c =
-    record { all_coded = omega (arith, (legal c.args.train.now).fit.to_3456); room = omega (arith, c.requires.soft_fit.0) }
+    record { inside = c.requires.legal.inside; all_coded = omega (arith, c.requires.legal.fit.to_3456); room = omega (arith, c.requires.soft_fit.0) }
 
 pub pick-requires-clause-heard_long : goal.pick-requires-clause-heard_long
-pick-requires-clause-heard_long c = omega (arith, (legal c.args.train.now).fit.to_3456, c.spread_train.auto.heard)
+pick-requires-clause-heard_long c = omega (arith, c.requires.legal.fit.to_3456, c.spread_train.auto.heard)
+
+pub pick-requires-clause-counter : goal.pick-requires-clause-counter
+pick-requires-clause-counter c = c.requires.legal.to_15
 
 pub returns : goal.returns
 returns c =
-    let legal = legal c.args.train.now in
+    let legal = c.requires.legal in
     let by_place = c.spread_train.ensures in
     let heard = all_heard c.args.soft.now c.requires.soft_fit.1 in
     record {

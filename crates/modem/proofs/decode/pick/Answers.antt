@@ -4,7 +4,8 @@ use mathlib.Core.Path.{◌≡◌}
 use Prim.Native.Nat.{◌%◌, ◌≤◌}
 use native.Mathlib.Omega.{arith}
 use Rattle.modes.specs.Sizes.{octets_of}
-use Rattle.modes.proofs.DescriptionLaws.{legal}
+use Rattle.modes.proofs.RefusalLaws.{first_long}
+use Rattle.modes.proofs.DescriptionLaws.{fit_in}
 use Rattle.modem.proofs.SizeLaws.{octets_whole}
 use Rattle.modem.proofs.PassedLaws.{train_short}
 use Rattle.modem.proofs.PickLaws.{first_low, pick_chosen}
@@ -13,8 +14,8 @@ use Rattle.modem.proofs.decode.pick.Goals as goal
 
 bits : (c : After-counts-counts) → (6 ≤ c.counts-counts.result.n) × (c.counts-counts.result.n ≤ 3456)
 bits c =
-    let legal = legal c.args.train.now in
-    (omega (arith, c.counts-counts.ensures.n, legal.inside), omega (arith, c.counts-counts.ensures.n, legal.fit.to_3456))
+    let fit = fit_in c.args.train.now in
+    (omega (arith, c.counts-counts.ensures.n, first_long _ fit.from_1 fit.each), omega (arith, c.counts-counts.ensures.n, fit.to_3456))
 
 pub search-cost-requires : goal.search-cost-requires
 search-cost-requires c =
@@ -25,13 +26,13 @@ search-cost-requires c =
 pub counter_of-own-requires : goal.counter_of-own-requires
 counter_of-own-requires c =
     let bits = bits (goal.at.counter_of-own-requires c).After-counts-counts in
-    ((legal c.args.train.now).to_15, omega (arith, c.search-cost.auto.train), first_low _ _ bits.0 c.search-cost.ensures.returned.train)
+    (c.requires.counter, omega (arith, c.search-cost.auto.train), first_low _ _ bits.0 c.search-cost.ensures.returned.train)
 
 pub descramble-requires : goal.descramble-requires
 unfolding octets_of
 descramble-requires c =
     let bits = bits (goal.at.descramble-requires c).After-counts-counts in
-    (omega (arith, c.counter_of-own.ensures.1, (legal c.args.train.now).to_15), bits.1, omega (arith, bits.1, c.search-cost.auto.train), rw c.counts-counts.ensures.n c.requires.octets_room)
+    (omega (arith, c.counter_of-own.ensures.1, c.requires.counter), bits.1, omega (arith, bits.1, c.search-cost.auto.train), rw c.counts-counts.ensures.n c.requires.octets_room)
 
 pub overflow_cast-result : goal.overflow_cast-result
 overflow_cast-result c =
@@ -52,7 +53,7 @@ pub returns : goal.returns
 returns c =
     let long = (bits (goal.at.returns c).After-counts-counts).0 in
     let n = c.counts-counts.ensures.n in
-    let whole : c.counts-counts.result.n % 8 ≡ 0 = rw n (octets_whole _ (legal c.args.train.now).fit.each) in
+    let whole : c.counts-counts.result.n % 8 ≡ 0 = rw n (octets_whole _ (fit_in c.args.train.now).each) in
     record {
       chosen = rw n at
           (pick_chosen _ _ _ _ _ _ c.descramble.ensures _ _ _ _ _ _ _ _ _ whole long

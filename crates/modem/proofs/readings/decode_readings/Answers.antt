@@ -10,10 +10,12 @@ use Rattle.modes.specs.Sizes.{octets_of}
 use Rattle.modes.specs.Kinds.{heeded}
 use Rattle.modes.specs.Refusals.{decode_described}
 use Rattle.modes.specs.Passed.{told, pdus_in, Describes}
+use Rattle.modes.specs.Description.{LegalList}
+use Rattle.modes.proofs.KindLaws.{decode_legal}
 use Rattle.modes.proofs.RefusalNumbers.{above_0}
 use Rattle.modem.specs.Decode.{readings_refusal, DecodeReadings}
 use Rattle.modem.proofs.LentLaws.{right_counts, enough_room, lent_passed, described_refused, lent_refused, all_done}
-use Rattle.modem.proofs.PassedLaws.{Tallied, tallied, train_short, train_carriers, passed_decoded, heeded_tested}
+use Rattle.modem.proofs.PassedLaws.{Tallied, tallied, passed_legal, train_short, train_carriers, passed_decoded, heeded_tested}
 use Rattle.modes.specs.Pdus.{carriers_of}
 use Rattle.soft.specs.Carriers.{all_soft}
 use Rattle.modem.proofs.SoftenedLaws.{softened_length, softened_soft, front_softened}
@@ -26,6 +28,9 @@ holds c = rw c.heeded.ensures at c.in_ok-train.ensures.done
 
 passed : (c : After-counts-counts) → ladder (decode_described c.args.by.now.kind (told c.args.by.now.list) c.args.by.now.counter c.args.by.now.a) ≡ 0
 passed c = sym (heeded_tested _ _ _ _ _ (rw c.heeded.ensures at c.in_ok-train.ensures.answer))
+
+legal : (c : After-counts-counts) → LegalList (pdus_in c.in_ok-train.train) c.in_ok-train.train.counter c.in_ok-train.train.a
+legal c = passed_legal (holds c) (decode_legal c.args.by.now.kind _ _ _ (passed c))
 
 count : (c : After-counts-counts) → Tallied (told c.args.by.now.list) c.counts-counts.result.n c.counts-counts.result.symbols c.counts-counts.result.sent
 count c = let counted = c.counts-counts.ensures in tallied _ _ _ _ _ (holds c).list_is counted.n counted.symbols counted.sent
@@ -84,6 +89,7 @@ find-requires c =
     let room = enough_room (length c.args.octets.now) (length c.args.words.now) (octets_of n) (n + 6) (sym c.room_short-short.ensures ∙ short) in
     let front = front_softened _ _ _ _ _ _ c.counts-counts.ensures.sent c.soften_train.ensures in
     record {
+      legal = legal (goal.at.find-requires c).After-counts-counts;
       soft_fit = (ap length front ∙ softened_length _ _ _, ap all_soft front ∙ softened_soft _ _ _);
       octets_room = rw c.counts-counts.ensures.n at room.0;
       words_room = rw c.counts-counts.ensures.n at room.1;

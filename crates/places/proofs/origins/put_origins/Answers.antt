@@ -42,7 +42,7 @@ pub put_pdu-requires-clause-room : goal.put_pdu-requires-clause-room
 put_pdu-requires-clause-room c =
     let turn = (goal.at.put_pdu-requires-clause-room c).In-loop-pdu in
     rw c.as_slice-pdu-items.ensures.value
-    (pdu_room c.args.train.now _ _ _ c.loop-pdu.invariant.0 (within turn) _
+    (pdu_room c.args.train.now _ _ _ c.loop-pdu.invariant.0 (within turn) _ c.requires
     (omega (arith, (small turn).1, length-take (6912 - c.loop-pdu.at) (drop c.loop-pdu.at c.loop-pdu.origins), length-drop c.loop-pdu.at c.loop-pdu.origins)))
 
 pub overflow_mul-first : goal.overflow_mul-first
