@@ -1,4 +1,4 @@
-// The bench on 150 records and a cut one.
+// The bench on 150 records and a cut one. Its code is that of `bench`: a program has one stored input, so each input is a program.
 #![tactic(auto)]
 
 use std::io;

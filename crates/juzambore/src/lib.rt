@@ -11,8 +11,8 @@ ghost use Rattle.modem.specs.Encode.{Encode};
 ghost use Rattle.modem.specs.Ideal.{Ideal};
 ghost use Rattle.modem.specs.Point.{MapsTo};
 ghost use Rattle.modem.specs.Soften.{Soften};
-ghost use Rattle.modem.specs.Decode.{outcome, DecodeSoft, DecodeReadings};
-ghost use Rattle.juzambore.specs.Said.{Said, SaidAs};
+ghost use Rattle.modem.specs.Decode.{DecodeSoft, DecodeReadings};
+ghost use Rattle.juzambore.specs.Said.{Said, outcome_by, SaidAs};
 
 use modem::{Answer, Description, Kind, PduList, Refusal};
 
@@ -166,7 +166,7 @@ pub extern "C" fn juzambore_decode_soft(
     octets: &mut [u8],
     words: &mut [u64],
 ) -> JuzamboreAnswer
-    ensures decode_soft { DecodeSoft (kind_of kind) (pdus_of count modes.now lengths.now) counter a soft.now octets.old words.old result.refusal (outcome result.symbols result.n result.cost (eqb result.confirmed 1) result.comparisons octets.new words.new) }
+    ensures decode_soft { DecodeSoft (kind_of kind) (pdus_of count modes.now lengths.now) counter a soft.now octets.old words.old result.refusal (outcome_by result octets.new words.new) }
     ensures flag { result.confirmed ≤ 1 }
 {
     let by = described(kind, count, modes, lengths, counter, a);
@@ -186,7 +186,7 @@ pub extern "C" fn juzambore_decode_readings(
     octets: &mut [u8],
     words: &mut [u64],
 ) -> JuzamboreAnswer
-    ensures decode_readings { DecodeReadings (kind_of kind) (pdus_of count modes.now lengths.now) counter a i.now q.now octets.old words.old result.refusal (outcome result.symbols result.n result.cost (eqb result.confirmed 1) result.comparisons octets.new words.new) }
+    ensures decode_readings { DecodeReadings (kind_of kind) (pdus_of count modes.now lengths.now) counter a i.now q.now octets.old words.old result.refusal (outcome_by result octets.new words.new) }
     ensures flag { result.confirmed ≤ 1 }
 {
     let by = described(kind, count, modes, lengths, counter, a);

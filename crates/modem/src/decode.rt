@@ -7,8 +7,7 @@ ghost use Rattle.modes.specs.Description.{LegalList};
 ghost use Rattle.modes.specs.Passed.{told, pdus_in};
 ghost use Rattle.soft.specs.Carriers.{all_soft};
 ghost use Rattle.modem.specs.Entering.{counter_in};
-ghost use Rattle.modem.specs.Told.{reported, outcome_of, Picked};
-ghost use Rattle.modem.specs.Decode.{DecodedList, DecodeSoft};
+ghost use Rattle.modem.specs.Told.{reported, Picked, DecodedTrain, DecodesSoft};
 
 use crate::lent::{lent_tested, room_short};
 use modes::{Description, Kind, Refusal, Train};
@@ -66,7 +65,7 @@ pub(crate) fn find(train: &Train, soft: &[i8], octets: &mut [u8], words: &mut [u
     requires soft_fit { (length soft.now ≡ sent_of (pdus_in train.now)) × (all_soft soft.now ≡ true) }
     requires octets_room { octets_of (length_of (pdus_in train.now)) ≤ length octets.old }
     requires words_room { length_of (pdus_in train.now) + 6 ≤ length words.old }
-    ensures { DecodedList train.now.kind (pdus_in train.now) train.now.counter train.now.a soft.now octets.old words.old (reported result octets.new words.new) }
+    ensures { DecodedTrain train.now soft.now octets.old words.old (reported result octets.new words.new) }
 {
     let mut heard = [0; 6924];
     places::spread_train(train, soft, &mut heard);
@@ -81,7 +80,7 @@ pub fn decode_soft(
     octets: &mut [u8],
     words: &mut [u64],
 ) -> Result<Answer, Refusal>
-    ensures { DecodeSoft by.now.kind (told by.now.list) by.now.counter by.now.a soft.now octets.old words.old (answer_of result) (outcome_of result octets.new words.new) }
+    ensures { DecodesSoft by.now soft.now octets.old words.old result octets.new words.new }
 {
     let train = Train::described(&by.heeded())?;
     let counts = train.counts();

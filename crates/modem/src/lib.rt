@@ -16,10 +16,10 @@ ghost use Rattle.modes.specs.Refusal.{answer_of};
 ghost use Rattle.modes.specs.Description.{LegalList};
 ghost use Rattle.modes.specs.Passed.{told, pdus_in};
 ghost use Rattle.modem.specs.Entering.{counter_other};
-ghost use Rattle.modem.specs.Encode.{sent_bit, Encode};
+ghost use Rattle.modem.specs.Encode.{Encode};
 ghost use Rattle.modem.specs.Ideal.{list_i, list_q, Ideal};
 ghost use Rattle.modem.specs.Point.{MapsTo};
-ghost use Rattle.modem.specs.Told.{point_i, point_q};
+ghost use Rattle.modem.specs.Told.{sent_bit_by, point_i, point_q};
 
 pub use decode::{Answer, decode_soft};
 use lent::{axes_short, lent_tested};
@@ -34,7 +34,7 @@ fn send(train: &Train, octets: &[u8], sent: &mut [u8])
     requires octets_long { length octets.now ≡ octets_of (length_of (pdus_in train.now)) }
     requires sent_room { sent_of (pdus_in train.now) ≤ length sent.old }
     requires counter_same { counter_other train.now.kind train.now.counter octets.now ≡ false }
-    ensures { sent.new ≡ filled (sent_of (pdus_in train.now)) (sent_bit train.now.kind (pdus_in train.now) train.now.counter train.now.a octets.now) sent.old }
+    ensures { sent.new ≡ filled (sent_of (pdus_in train.now)) (sent_bit_by train.now octets.now) sent.old }
 {
     let first = modes::first_scrambled(train.kind);
     let n = train.counts().n;

@@ -1,12 +1,11 @@
-// Readings: their soft bytes, and the train that is decoded from these.
+// Readings: their soft bytes, and the train that is decoded from these. I and Q are two lent slices everywhere, the form that document 01 names.
 ghost use Rattle.std.specs.Prelude.{◌≡◌, ◌≤◌, length};
 ghost use Rattle.laws.specs.Lists.{filled};
 ghost use Rattle.modes.specs.Pdus.{carriers_of, sent_of};
 ghost use Rattle.modes.specs.Refusal.{answer_of};
 ghost use Rattle.modes.specs.Passed.{told, pdus_in};
 ghost use Rattle.modem.specs.Soften.{list_soft, Soften};
-ghost use Rattle.modem.specs.Told.{outcome_of};
-ghost use Rattle.modem.specs.Decode.{DecodeReadings};
+ghost use Rattle.modem.specs.Told.{DecodesReadings};
 
 use crate::decode::{Answer, find};
 use crate::lent::{lent_tested, readings_wrong, room_short};
@@ -55,7 +54,7 @@ pub fn decode_readings(
     octets: &mut [u8],
     words: &mut [u64],
 ) -> Result<Answer, Refusal>
-    ensures { DecodeReadings by.now.kind (told by.now.list) by.now.counter by.now.a i.now q.now octets.old words.old (answer_of result) (outcome_of result octets.new words.new) }
+    ensures { DecodesReadings by.now i.now q.now octets.old words.old result octets.new words.new }
 {
     let train = Train::described(&by.heeded())?;
     let counts = train.counts();

@@ -3,6 +3,7 @@ ghost use Rattle.std.specs.Prelude.{◌≡◌, List, ℕ, Bool, ◌<◌, ◌≤�
 ghost use Rattle.laws.specs.Ladder.{◌when◌, given, ladder};
 ghost use Rattle.modes.specs.Modes.{info};
 ghost use Rattle.modes.specs.Pdus.{pdus_of, length_of};
+ghost use Rattle.modes.specs.Passed.{told};
 ghost use Rattle.modes.specs.Refusal.{answer_of, refusal_number};
 ghost use Rattle.modes.specs.Refusals.{length_outside, place_above, lengths, modes_tests, lengths_tests, list_tests, encode_described};
 
@@ -52,8 +53,8 @@ impl PduList {
 
     // Refusals 3, 4 and 5 PDU by PDU, of which the modes are known.
     fn lengths_tested(&self) -> Result<(), Refusal>
-        requires { (self.now.count ≤ 16) × (ladder (modes_tests (pdus_of self.now.count self.now.modes self.now.lengths)) ≡ 0) }
-        ensures { answer_of result ≡ ladder (lengths_tests (pdus_of self.now.count self.now.modes self.now.lengths)) }
+        requires { (self.now.count ≤ 16) × (ladder (modes_tests (told self.now)) ≡ 0) }
+        ensures { answer_of result ≡ ladder (lengths_tests (told self.now)) }
     {
         for k in 0..self.count as usize {
             length_tested(info_of(self.modes[k]), self.lengths[k])?;
@@ -114,14 +115,14 @@ fn in_order(
 }
 
 // What a kind, a list of PDUs, a counter and a are tested for.
-pub(crate) fn tested(told: &Description) -> Result<(), Refusal>
-    ensures { answer_of result ≡ ladder (encode_described told.now.kind (pdus_of told.now.list.count told.now.list.modes told.now.list.lengths) told.now.counter told.now.a) }
+pub(crate) fn tested(by: &Description) -> Result<(), Refusal>
+    ensures { answer_of result ≡ ladder (encode_described by.now.kind (told by.now.list) by.now.counter by.now.a) }
 {
-    let list = &told.list;
+    let list = &by.list;
     list.modes_tested()?;
     let each = list.lengths_tested();
     let sum = list.total_length();
-    let above = place_above(sum, told.a);
-    let other = other_than(told.kind, list.count, sum, list.modes[0], told.a);
-    in_order(15 < told.counter, each, sum_outside(sum), above, other)
+    let above = place_above(sum, by.a);
+    let other = other_than(by.kind, list.count, sum, list.modes[0], by.a);
+    in_order(15 < by.counter, each, sum_outside(sum), above, other)
 }

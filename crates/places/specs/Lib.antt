@@ -3,3 +3,4 @@ pub mod Puncture
 pub mod Interleaver
 pub mod Trains
 pub mod Sending
+pub mod Put

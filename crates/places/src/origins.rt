@@ -10,7 +10,8 @@ ghost use Rattle.modes.specs.Description.{Fit};
 ghost use Rattle.modes.specs.Passed.{pdus_in};
 ghost use Rattle.places.specs.Selection.{origin};
 ghost use Rattle.places.specs.Trains.{listed};
-ghost use Rattle.places.specs.Sending.{source_of, Sources, symbol_bits, origin_of, PduRoom};
+ghost use Rattle.places.specs.Sending.{Sources, origin_of, PduRoom};
+ghost use Rattle.places.specs.Put.{source_by, bits_in};
 
 use crate::interleaver::symbol_places;
 use crate::puncture::Punctured;
@@ -21,7 +22,7 @@ fn put_symbol(places: &[u16], punctured: Punctured, base: usize, origins: &mut [
     requires bounds { (punctured.a ≤ 3456) × (base + length places.now ≤ 6912) × (base + length places.now ≤ length origins.old) }
     requires seats { Seats places.now (length places.now) }
     requires sources { Sources punctured.rate punctured.a punctured.first (base + length places.now) 6924 }
-    ensures { Scattered base (length places.now) places.now (λ k. source_of punctured.rate punctured.a punctured.first (base + k)) (length places.now) origins.old origins.new }
+    ensures { Scattered base (length places.now) places.now (λ k. source_by punctured (base + k)) (length places.now) origins.old origins.new }
 {
     for (k, place) in places.iter().enumerate() {
         origins[base + usize::from(*place)] = punctured.source(base + k) as u16;
@@ -32,7 +33,7 @@ fn put_symbol(places: &[u16], punctured: Punctured, base: usize, origins: &mut [
 fn put_pdu(pdu: Pdu, a: usize, first: usize, origins: &mut [u16])
     requires fit { Fit (number pdu.mode) pdu.n }
     requires room { PduRoom (bits_of pdu.mode.constellation) pdu.mode.rate (symbols (number pdu.mode) pdu.n) a first (length origins.old) }
-    ensures { origins.new ≡ filled (symbol_bits (bits_of pdu.mode.constellation) (symbols (number pdu.mode) pdu.n)) (origin_of (bits_of pdu.mode.constellation) pdu.mode.rate a first) origins.old }
+    ensures { origins.new ≡ filled (bits_in pdu) (origin_of (bits_of pdu.mode.constellation) pdu.mode.rate a first) origins.old }
 {
     let c = pdu.mode.constellation;
     let rate = pdu.mode.rate;

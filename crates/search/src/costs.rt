@@ -35,7 +35,7 @@ pub fn pair_of(x: u8, y: u8) -> Pair
 fn heard_of(byte: u8) -> u16
     ensures { (result ≡ byte_heard byte) × (result ≤ 1) }
 {
-    if byte == 0 { 0 } else { 1 }
+    u16::from(byte != 0)
 }
 
 // In the mark's pass a bit costs twice as much, and one more where it was heard and agrees with the train's own.

@@ -23,7 +23,8 @@ use masks::BothMasks;
 use step::{is_above, started, step};
 use words::follow;
 
-// Of all trains of n bits, the one of least cost; of equals, the one with 0 at the last place where the two differ. Its cost.
+// Of all trains of n bits, the one of least cost; of equals, the one with 0 at the last place where the two differ. Its cost. (n and the
+// bytes heard stay two parameters: a caller has both at hand, and would make a struct of them for this one call.)
 pub fn search(n: usize, heard: &[u8], train: &mut [u8], words: &mut [u64]) -> u32
     requires { (n ≤ 3472) × (2 * (n + 6) ≤ length heard.now) × (n ≤ length train.old) × (n + 6 ≤ length words.old) }
     ensures { Searched n heard.now train.old train.new words.old words.new result }

@@ -1,17 +1,19 @@
 -- Laws of a held reading: it lies in -2,048 to 2,048, and what it is counted from there.
 -- Assumes nothing.
-use mathlib.Core.Path.{◌≡◌, refl, ap}
+use mathlib.Core.Path.{◌≡◌, refl, ap, ◌∙◌}
 use mathlib.Core.Bool.{Bool, true, false}
-use Prim.Native.Nat.{ℕ, ◌-◌, ◌<◌, ◌≤◌, min}
+use Prim.Native.Nat.{ℕ, ◌<◌, ◌≤◌, min}
 use native.Mathlib.Omega.{arith}
 use lib.Dec.{ltb}
-use lib.IntN.{ℤ, pos, negsuc, ◌-ℤ◌}
+use lib.IntN.{ℤ, pos, negsuc, neg_ℤ, nat_abs, ◌-ℤ◌}
 use lib.Signed.{mag}
 use mir.Syntax.{w16}
-use mir.Val.{SFits, to_z, of_z}
+use mir.Val.{to_z, of_z}
+use Rattle.std.specs.Int.{int_min, int_max}
 use borrow.Author.Tests.{ltb-true, ltb-false}
 use Rattle.laws.specs.Signed.{above, counted}
-use Rattle.laws.proofs.SignedLaws.{kept, above_neg, counted_neg, counted_back}
+use Rattle.laws.proofs.SignedLaws.{kept, above_neg, counted_is, counted_neg, counted_back}
+use Rattle.points.specs.Levels.{minus}
 use Rattle.soft.specs.Soft.{held}
 
 held_pos : (n : ℕ) → held (pos n) ≡ pos (min n 2048)
@@ -30,14 +32,37 @@ held_neg n = go (ltb 2047 n) refl
     go true e = rw e (ap negsuc (omega (arith, ltb-true 2047 n e)))
     go false e = rw e (ap negsuc (omega (arith, ltb-false 2047 n e)))
 
-counted_held : (r : ℤ) → mag r < 32768 → counted 2048 (held r) ≡ min (counted 32768 r - 30720) 4096
-unfolding counted above
-counted_held (pos n) h = rw (held_pos n) (omega arith)
-counted_held (negsuc n) h = rw (held_neg n, counted_neg 2048 (min n 2047), counted_neg 32768 n) (omega arith)
+-- the code's clamp
+clamped : (r : ℤ) → int_max (minus 2048) (int_min r (pos 2048)) ≡ held r
+unfolding held
+clamped (pos n) = go (ltb 2048 n) refl
+  where
+    go : (t : Bool) → ltb 2048 n ≡ t → int_max (minus 2048) (int_min (pos n) (pos 2048)) ≡ held (pos n)
+    go true e = rw e
+    go false e = rw e
+clamped (negsuc n) = go (ltb 2047 n) refl
+  where
+    go : (t : Bool) → ltb 2047 n ≡ t → int_max (minus 2048) (int_min (negsuc n) (pos 2048)) ≡ held (negsuc n)
+    go true e = rw e
+    go false e = rw e
 
--- counted from -2,048, where x is the reading, as the code passes it on, counted from -32,768
-pub held_by : (r : ℤ) → SFits w16 r → (x : ℕ) → x ≡ counted 32768 (to_z w16 (of_z w16 r)) → counted 2048 (held r) ≡ min (x - 30720) 4096
-held_by r fits x e = rw (e, kept w16 r fits.sfits refl) (counted_held r fits.sfits)
+held_above : (r : ℤ) → above (neg_ℤ (held r)) ≤ 2048
+unfolding above
+held_above (pos n) = rw (held_pos n, above_neg) (omega arith)
+held_above (negsuc n) = rw (held_neg n) (omega arith)
+
+held_mag : (r : ℤ) → mag (held r) < 32768
+held_mag (pos n) = rw (held_pos n) (omega arith)
+held_mag (negsuc n) = rw (held_neg n) (omega arith)
+
+-- r as the code passes it on, z its clamp, and x how far that is above -2,048
+pub held_by : (r z : ℤ) (x : ℕ) → mag r < 32768 → z ≡ int_max (minus 2048) (int_min (to_z w16 (of_z w16 r)) (pos 2048))
+    → x ≡ nat_abs (to_z w16 (of_z w16 z) -ℤ minus 2048)
+    → x ≡ counted 2048 (held r)
+held_by r z x fits ez ex =
+    let same : z ≡ held r = ez ∙ rw (kept w16 r fits refl) (clamped r) in
+    let there : to_z w16 (of_z w16 (held r)) ≡ held r = kept w16 (held r) (held_mag r) refl in
+    ex ∙ rw (same, there) (ap nat_abs (counted_is 2048 (held r) (held_above r)))
 
 pub held_within : (r : ℤ) → counted 2048 (held r) ≤ 4096
 unfolding counted above
@@ -46,6 +71,4 @@ held_within (negsuc n) = rw (held_neg n, counted_neg 2048 (min n 2047)) (omega a
 
 -- and back
 pub held_back : (r : ℤ) → pos (counted 2048 (held r)) -ℤ pos 2048 ≡ held r
-unfolding above
-held_back (pos n) = rw (held_pos n) (counted_back 2048 (pos (min n 2048)) (rw above_neg (omega arith)))
-held_back (negsuc n) = rw (held_neg n) (counted_back 2048 (negsuc (min n 2047)) (omega arith))
+held_back r = counted_back 2048 (held r) (held_above r)

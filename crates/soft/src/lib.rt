@@ -14,13 +14,6 @@ ghost use Rattle.soft.specs.Stored.{stored};
 
 use modes::Constellation;
 
-// A reading counted from -32,768. Between this and `lowered` no number has a sign.
-fn raised(r: i16) -> u32
-    ensures { result ≡ counted 32768 r }
-{
-    (i32::from(r) + 32768) as u32
-}
-
 // A reading held, counted from -2,048.
 #[derive(Clone, Copy)]
 struct Held {
@@ -29,19 +22,13 @@ struct Held {
 }
 
 impl Held {
-    // Raised, -2,048 is 30,720 and 2,048 is 34,816. (`clamp` takes one or two instructions more for each soft byte.)
-    #[tactic(auto, using(crate::proofs::HeldLaws::held_by))]
+    // Here the sign goes, and `lowered` brings it back.
     fn of(r: i16) -> Held
         ensures { result.p ≡ counted 2048 (held r) }
     {
-        let x = raised(r);
-        if x < 30720 {
-            return Held { p: 0 };
+        Held {
+            p: u32::from(r.clamp(-2048, 2048).abs_diff(-2048)),
         }
-        if 34816 < x {
-            return Held { p: 4096 };
-        }
-        Held { p: x - 30720 }
     }
 
     // The size of S of the first of v bits.
@@ -92,7 +79,8 @@ fn lowered(x: u32) -> i8
     (x as i32 - 128) as i8
 }
 
-// The soft bytes of a reading of w bits, from `at` on: each bit is the first of those that are left.
+// The soft bytes of a reading of w bits, from `at` on: each bit is the first of those that are left. How many are left stays a parameter of
+// the methods above: it is this loop's own count, and a field beside the reading would say it twice.
 fn put_axis(w: usize, reading: Held, at: usize, soft: &mut [i8])
     requires { (w ≤ 3) × (at + w ≤ length soft.old) }
     ensures { soft.new ≡ stored at w (soft_from w reading.p) soft.old }

@@ -13,8 +13,8 @@ use Rattle.modes.proofs.refusals.tested.Goals as goal
 use Rattle.modes.proofs.refusals.tested.Goals.{In_ok-modes_tested}
 
 -- past the tests of the list
-listed : (c : In_ok-modes_tested) → ladder (list_tests (told c.args.told.now.list)) ≡ 0
-listed c = sym (c.in_ok-modes_tested.ensures c.args.told.now.list.lengths)
+listed : (c : In_ok-modes_tested) → ladder (list_tests (told c.args.by.now.list)) ≡ 0
+listed c = sym (c.in_ok-modes_tested.ensures c.args.by.now.list.lengths)
 
 pub returns-in_err-modes_tested : goal.returns-in_err-modes_tested
 returns-in_err-modes_tested c =
@@ -32,7 +32,7 @@ total_length-sum-requires c = list_count _ _ _ (listed (goal.at.total_length-sum
 pub returns : goal.returns
 returns c =
     let listed = listed (goal.at.returns c).In_ok-modes_tested in
-    let list = c.args.told.now.list in
+    let list = c.args.by.now.list in
     let sum = c.total_length-sum.ensures list.modes in
     rw (
       ← encode_rest _ _ _ _ listed,
