@@ -14,10 +14,6 @@ use Rattle.laws.specs.Lists.{filled}
 use Rattle.laws.specs.Scatter.{Seats, Scattered, Placed}
 use Rattle.laws.proofs.ListLaws.{after_set, filled_at, filled_past, filled_length, filled_ext}
 
-pub scattered_none : (base size : ℕ) (table : List ℕ) (v : ℕ → ℕ) (l : List ℕ) → Scattered base size table v 0 l l
-scattered_none base size table v l =
-    record { long = refl; put = λ i h. absurd (not-suc-le-zero h); before = λ q h. refl; behind = λ q h. refl }
-
 module _ (base size : ℕ) (table : List ℕ) (v : ℕ → ℕ) (l : List ℕ) (seats : Seats table size) (room : base + size ≤ length l) where
   pub scattered_again : (k : ℕ) (l' : List ℕ) (x : ℕ) → Scattered base size table v k l l' → k < size → x ≡ v k
       → Scattered base size table v (k + 1) l (set l' (base + get_or table k 0) x)

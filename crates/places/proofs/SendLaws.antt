@@ -22,7 +22,7 @@ use Rattle.places.specs.Selection.{origin}
 use Rattle.places.specs.Puncture.{p1, p2}
 use Rattle.places.specs.Interleaver.{place_in_symbol, no_places, places_of, seated, interleaver}
 use Rattle.places.specs.Trains.{pdu_by}
-use Rattle.places.specs.Sending.{source_of, Sources, origin_of}
+use Rattle.places.specs.Sending.{source_of, origin_of}
 use Rattle.places.proofs.SymbolLaws.{seated_length, symbol_place_within, symbol_place_back, symbol_back_within, symbol_back_place}
 
 -- a symbol of S bits: places and bits take each other back
@@ -94,15 +94,6 @@ interleaver_origin S b s j h = rw (seated_length S b S, digits_div s h, digits_m
 -- a symbol that is still to come lies within the PDU
 pub symbol_inside : (S s symbols : ℕ) → s < symbols → s * S + S ≤ symbols * S
 symbol_inside S s symbols h = le_trans (omega (arith, suc-mul s S)) (mul-le-mul_right S h)
-
--- sources of more bits are sources of fewer
-pub sources_fewer : (rate : Rate) (a first n m coded : ℕ) → m ≤ n → Sources rate a first n coded → Sources rate a first m coded
-sources_fewer rate a first n m coded less s =
-    record {
-      punctured = λ q h. s.punctured q (omega arith);
-      present = λ q h. s.present q (omega arith);
-      apart = λ p q more h. s.apart p q more (omega arith);
-    }
 
 -- the origins of s symbols are put
 pub record Put (b : ℕ) (rate : Rate) (a first : ℕ) (l₀ l : List ℕ) (s : ℕ) : Type 0 where
