@@ -68,7 +68,7 @@ pub struct Pdu {
     pub n: usize,
 }
 
-// The mode of a number. A number that is no mode's gives a pair that is no mode.
+// The mode of a number. A number that is no mode's gives a pair that is no mode: this cannot fail, as it never could, and `try_from` can.
 pub fn mode_of(number: u32) -> Mode
     ensures { (result.constellation ≡ constellation_of number) × (result.rate ≡ rate_of number) }
 {

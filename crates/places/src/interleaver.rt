@@ -26,7 +26,7 @@ fn block_of(c: Constellation) -> usize
     }
 }
 
-// An array of its own function keeps its elements out of the proof of its user.
+// An array of its own: over a literal in place the proof of the loop below did not close.
 fn no_places() -> [u16; 288]
     ensures { (result ≡ no_places) × (length result ≡ 288) }
 {
