@@ -42,6 +42,7 @@ pub fn read_full<R: Read>(input: &mut R, bytes: &mut [u8]) -> io::Result<usize>
 // Prints a line for each record; of one that is cut off, where the input ends too, that it is refused.
 pub fn run(rt: &(impl Input + Print)) -> io::Result<()> {
     let mut input = rt.reader();
+    // A line's number has 64 bits.
     for k in 0..u64::MAX {
         let mut bytes = [0u8; 60];
         match read_full(&mut input, &mut bytes)? {

@@ -71,8 +71,8 @@ fn code_on(
     }
 }
 
-// The coded bits of a train of n bits, scrambled from bit `first` on: n + 6 pairs at the front of `coded`. A counter is a plain number of
-// 15 at most here and in octets.rt, since the promises speak of it as of a number.
+// The coded bits of a train of n bits, scrambled from bit `first` on: n + 6 pairs at the front of `coded`. A counter is a number of 15 at
+// most here and in octets.rt: a type that keeps it so would be made from one at each call and be taken apart in each promise.
 pub fn code(first: usize, counter: u32, n: usize, octets: &[u8], coded: &mut [u8])
     requires { (first ≤ n) × (counter ≤ 15) × (n ≤ 3456) × (n ≤ 8 * length octets.now) × (2 * (n + 6) ≤ length coded.old) }
     ensures { coded.new ≡ filled (2 * (n + 6)) (coded_bit first counter n octets.now) coded.old }

@@ -41,7 +41,7 @@ pub extern "C" fn gauge_mark(n: u32, heard: &[u8], train: &[u8]) -> u32
     let Some(bits) = fit(n, heard.len(), train.len()) else {
         return UNFIT;
     };
-    if !points::bits_ok(&train[0..bits]) {
+    if !points::bits_ok(&train[..bits]) {
         return UNFIT;
     }
     u32::from(search::mark(bits, heard, train))

@@ -11,7 +11,8 @@ use crate::decode::{Answer, find};
 use crate::lent::{lent_tested, readings_wrong, room_short};
 use modes::{Description, PduList, Refusal, Train};
 
-// The soft bytes of a train's readings PDU by PDU.
+// The soft bytes of a train's readings PDU by PDU. It walks as `read_train` does: an iterator of PDUs with their beginnings would be a type with
+// laws of its own, for these four lines.
 #[tactic(auto, using(crate::proofs::ReadLaws::reached_small, crate::proofs::ReadLaws::bits_kept))]
 fn soften_train(train: &Train, i: &[i16], q: &[i16], soft: &mut [i8])
     requires readings_long { (carriers_of (pdus_in train.now) ≤ length i.now) × (carriers_of (pdus_in train.now) ≤ length q.now) }

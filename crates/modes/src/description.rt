@@ -7,8 +7,8 @@ ghost use Rattle.modes.specs.Description.{FitList, held, Holds};
 use crate::{Kind, Pdu, mode_of};
 use arrayvec::ArrayVec;
 
-// The PDUs: how many, and the mode and the length of each. What stands past the count is not read. C lends the two arrays, so they
-// stay two.
+// The PDUs: how many, and the mode and the length of each. What stands past the count is not read. How many stands beside the
+// arrays, which C lends so, for a count above 16 has a refusal of its own.
 #[derive(Clone, Copy)]
 pub struct PduList {
     pub count: u32,

@@ -18,8 +18,9 @@ ghost use Rattle.modes.specs.Passed.{ModeOf};
 pub use description::{Description, PduList};
 pub use kinds::first_scrambled;
 pub use refusal::Refusal;
-use std::fmt;
 pub use train::{Counts, Train};
+
+use std::fmt;
 
 #[derive(Clone, Copy, Debug, Default, PartialEq, Eq)]
 pub enum Constellation {
@@ -62,6 +63,7 @@ pub struct Mode {
     pub rate: Rate,
 }
 
+// That a PDU is one of document 01's stays a clause of the three functions that need it: a `Train` keeps it, and more, of its whole list.
 #[derive(Clone, Copy, Debug, Default, PartialEq, Eq)]
 pub struct Pdu {
     pub mode: Mode,
@@ -115,7 +117,7 @@ impl TryFrom<u32> for Mode {
 
     #[tactic(auto, unfolding(laws::specs::Ladder::ladder))]
     fn try_from(number: u32) -> Result<Mode, Refusal> {
-        if number < 1 || 7 < number {
+        if !(1..=7).contains(&number) {
             return Err(Refusal::Mode);
         }
         Ok(mode_of(number))

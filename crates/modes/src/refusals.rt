@@ -10,6 +10,13 @@ ghost use Rattle.modes.specs.Refusals.{length_outside, place_above, lengths, mod
 use crate::kinds::other_than;
 use crate::{Description, Mode, PduList, Refusal, info_per_symbol, mode_of};
 
+// Whether a length, a PDU's or the sum of all, lies outside a train's lengths.
+fn length_outside(n: usize) -> bool
+    ensures { result ≡ length_outside n }
+{
+    !(72..=3456).contains(&n)
+}
+
 // Table 1's last column.
 fn info_of(mode: u32) -> u32
     requires { (1 ≤ mode) × (mode ≤ 7) }
@@ -24,7 +31,7 @@ fn length_tested(info: u32, n: u32) -> Result<(), Refusal>
     requires { 0 < info }
     ensures { answer_of result ≡ ladder (lengths info n) }
 {
-    if n < 72 || 3456 < n {
+    if length_outside(n as usize) {
         return Err(Refusal::Length);
     }
     if n % 8 != 0 {
@@ -75,13 +82,6 @@ impl PduList {
     }
 }
 
-// Whether the sum lies outside a train's lengths.
-fn sum_outside(sum: usize) -> bool
-    ensures { result ≡ length_outside sum }
-{
-    sum < 72 || 3456 < sum
-}
-
 // Whether P1 would begin too late.
 fn place_above(sum: usize, a: u32) -> bool
     ensures { result ≡ place_above sum a }
@@ -124,5 +124,5 @@ pub(crate) fn tested(by: &Description) -> Result<(), Refusal>
     let sum = list.total_length();
     let above = place_above(sum, by.a);
     let other = other_than(by.kind, list.count, sum, list.modes[0], by.a);
-    in_order(15 < by.counter, each, sum_outside(sum), above, other)
+    in_order(15 < by.counter, each, length_outside(sum), above, other)
 }

@@ -48,13 +48,20 @@ seating Qpsk = by_number 3 (lit≤ tt) (lit≤ tt)
 seating Qam16 = by_number 5 (lit≤ tt) (lit≤ tt)
 seating Qam64 = by_number 7 (lit≤ tt) (lit≤ tt)
 
+-- an entry of the table of places
+pub places_at : (S b k : ℕ) → k < S → get_or (places_of S b) k 0 ≡ place_in_symbol S b k
+unfolding places_of
+places_at S b k h = filled_at S (place_in_symbol S b) no_places k 0 h
+
 -- the places of a symbol as they are lent
 abbrev pub front : ℕ → ℕ → List ℕ
 front S b = take S (places_of S b)
 
+front_same : (S b k : ℕ) → k < S → get_or (front S b) k 0 ≡ get_or (places_of S b) k 0
+front_same S b k h = get_or-take S (places_of S b) k 0 h
+
 pub front_at : (S b k : ℕ) → k < S → get_or (front S b) k 0 ≡ place_in_symbol S b k
-unfolding places_of
-front_at S b k h = get_or-take S (places_of S b) k 0 h ∙ filled_at S (place_in_symbol S b) no_places k 0 h
+front_at S b k h = front_same S b k h ∙ places_at S b k h
 
 pub front_long : (c : Constellation) → length (front (48 * bits_of c) (bits_of c)) ≡ 48 * bits_of c
 unfolding places_of no_places
@@ -71,19 +78,30 @@ front_long c =
 pub seated_by : (c : Constellation) (b : ℕ) → b ≡ bits_of c → Seating (48 * b) b
 seated_by c b e = subst (λ (n : ℕ). Seating (48 * n) n) (sym e) (seating c)
 
-pub seats : (c : Constellation) (b : ℕ) → b ≡ bits_of c → Seats (front (48 * b) b) (48 * b)
+pub seats : (c : Constellation) (b : ℕ) → b ≡ bits_of c → Seats (places_of (48 * b) b) (48 * b)
 seats c b e = go (48 * b) b (seated_by c b e)
   where
-    go : (S b : ℕ) → Seating S b → Seats (front S b) S
+    go : (S b : ℕ) → Seating S b → Seats (places_of S b) S
     go S b s =
         record {
-          within = λ k h. rw (front_at S b k h) (s.within k h);
+          within = λ k h. rw (places_at S b k h) (s.within k h);
           apart = λ i k less h same.
               let e : i ≡ k =
               sym (s.back i (omega arith))
-              ∙ ap (λ (j : ℕ). get_or (seated S b S) j 0) (sym (front_at S b i (omega arith)) ∙ same ∙ front_at S b k h)
+              ∙ ap (λ (j : ℕ). get_or (seated S b S) j 0) (sym (places_at S b i (omega arith)) ∙ same ∙ places_at S b k h)
               ∙ s.back k h
               in omega arith;
+        }
+
+pub front_seats : (c : Constellation) (b : ℕ) → b ≡ bits_of c → Seats (front (48 * b) b) (48 * b)
+front_seats c b e = go (48 * b) (seats c b e)
+  where
+    go : (S : ℕ) → Seats (places_of S b) S → Seats (front S b) S
+    go S s =
+        record {
+          within = λ k h. rw (front_same S b k h) (s.within k h);
+          apart = λ i k less h same.
+              s.apart i k less h (sym (front_same S b i (omega arith)) ∙ same ∙ front_same S b k h);
         }
 
 -- bit j of symbol s, by the interleaver

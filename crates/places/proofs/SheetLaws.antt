@@ -1,15 +1,17 @@
 -- The interleaver's sheet: each of its entries is a bit's place by the rule of clause 5.4.
 -- Assumes nothing.
-use mathlib.Core.Path.{◌≡◌, ◌∙◌}
-use mathlib.Core.List.{List, ◌∷◌}
+use mathlib.Core.Path.{◌≡◌, ◌∙◌, ap}
+use mathlib.Core.List.{List, ◌∷◌, ◌++◌}
 use Prim.Native.Nat.{ℕ, ◌+◌, ◌-◌, ◌*◌, ◌<◌, ◌≤◌}
 use native.Mathlib.Nat.{zero-add}
 use native.Mathlib.Omega.{arith}
 use borrow.Author.Tests.{lt-ltb, le-ltb}
 use lib.Dec.{lit≤}
-use lib.ListN.{get_or}
+use lib.ListN.{take, drop}
+use lib.Seq.{take_at, drop_at}
+use Rattle.std.specs.Prelude.{replicate}
 use Rattle.laws.specs.Lists.{tabulate, filled}
-use Rattle.laws.proofs.ListLaws.{tabulate_at, filled_same}
+use Rattle.laws.proofs.ListLaws.{tabulate_length, tabulate_append, tabulate_ext}
 use Rattle.modes.specs.declared.Constellation.{Constellation}
 use Rattle.modes.specs.declared.Constellation.TheVariants.{Bpsk, Qpsk, Qam16, Qam64}
 use Rattle.modes.specs.Modes.{bits_of}
@@ -47,10 +49,21 @@ block_within Qam16 = lit≤ tt
 block_within Qam64 = lit≤ tt
 
 -- what is copied from a constellation's block is the table of its symbols' places
-pub block_copied : (c : Constellation) (table l₀ l : List ℕ) (at k : ℕ) → table ≡ tabulate 624 sheet → at ≡ block_of c → l₀ ≡ no_places
-    → k ≡ 48 * bits_of c → l ≡ filled k (λ j. get_or table (at + j) 0) l₀ → l ≡ places_of (48 * bits_of c) (bits_of c)
-unfolding places_of
-block_copied c table l₀ l at k et ea e₀ ek e =
-    rw (e, ek, et, ea, e₀)
-    (filled_same (48 * bits_of c) _ _ no_places
-    (λ j h. tabulate_at 624 sheet (block_of c + j) 0 (omega (arith, block_within c)) ∙ sheet_at c j h))
+block_taken : (c : Constellation) → take (48 * bits_of c) (drop (block_of c) (tabulate 624 sheet)) ≡ tabulate (48 * bits_of c) (place_in_symbol (48 * bits_of c) (bits_of c))
+block_taken c =
+    let B = block_of c in
+    let S = 48 * bits_of c in
+    let R = 624 - (B + S) in
+    let e : 624 ≡ B + (S + R) = omega (arith, block_within c) in
+    ap (λ (n : ℕ). take S (drop B (tabulate n sheet))) e
+    ∙ ap (λ (l : List ℕ). take S (drop B l)) (tabulate_append B (S + R) sheet)
+    ∙ ap (λ (l : List ℕ). take S l) (drop_at (tabulate B sheet) (tabulate (S + R) (λ k. sheet (B + k))) B (tabulate_length B sheet))
+    ∙ ap (λ (l : List ℕ). take S l) (tabulate_append S R (λ k. sheet (B + k)))
+    ∙ take_at (tabulate S (λ k. sheet (B + k))) _ S (tabulate_length S (λ k. sheet (B + k)))
+    ∙ tabulate_ext S _ _ (λ k h. sheet_at c k h)
+
+pub block_copied : (c : Constellation) (table part : List ℕ) (at k n : ℕ) → table ≡ tabulate 624 sheet → at ≡ block_of c
+    → k ≡ 48 * bits_of c → n ≡ k → part ≡ take n (drop at table) → part ++ drop k (replicate 288 0) ≡ places_of (48 * bits_of c) (bits_of c)
+unfolding places_of filled no_places
+block_copied c table part at k n et ea ek en ep =
+    rw (ep, en, ek, ea, et) (ap (λ (l : List ℕ). l ++ drop (48 * bits_of c) (replicate 288 0)) (block_taken c))

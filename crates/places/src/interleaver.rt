@@ -26,14 +26,7 @@ fn block_of(c: Constellation) -> usize
     }
 }
 
-// An array of its own: over a literal in place the proof of the loop below did not close.
-fn no_places() -> [u16; 288]
-    ensures { (result ≡ no_places) × (length result ≡ 288) }
-{
-    [0; 288]
-}
-
-// The places of a symbol's bits, copied once; the loops read them through a lent array.
+// The places of a symbol's bits at the front of an array, which is as long as the longest symbol: sheet reads it, and the promise names it whole.
 #[tactic(auto, using(crate::proofs::SheetLaws::block_within))]
 pub fn symbol_places(c: Constellation) -> [u16; 288]
     ensures { result ≡ places_of (48 * bits_of c) (bits_of c) }
@@ -41,9 +34,7 @@ pub fn symbol_places(c: Constellation) -> [u16; 288]
     let sheet = whole_sheet();
     let block = block_of(c);
     let size = 48 * modes::bits_per_carrier(c) as usize;
-    let mut places = no_places();
-    for k in 0..size {
-        places[k] = sheet[block + k];
-    }
+    let mut places = [0; 288];
+    places[..size].copy_from_slice(&sheet[block..block + size]);
     places
 }

@@ -34,7 +34,7 @@ pub fn send_train(train: &Train, coded: &[u8], sent: &mut [u8])
 fn counted_from(soft: i8) -> u8
     ensures { result ≡ counted 128 soft }
 {
-    (i16::from(soft) + 128) as u8
+    soft.abs_diff(i8::MIN)
 }
 
 // A train's soft bytes at the coded bits that they are of, counted from -128. What was not sent keeps what stood there.

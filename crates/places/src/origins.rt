@@ -50,7 +50,7 @@ fn put_pdu(pdu: Pdu, a: usize, first: usize, origins: &mut [u16])
     }
 }
 
-// A train, at the front of `origins`; how many sent bits it has.
+// A train, at the front of `origins`; how many sent bits it has. An ArrayVec grows at its end, and a symbol's origins are put in another order.
 pub(crate) fn put_origins(train: &Train, origins: &mut [u16; 6912]) -> usize
     requires { train.now.a + 72 ≤ length_of (pdus_in train.now) }
     ensures n { result ≡ sent_of (pdus_in train.now) }

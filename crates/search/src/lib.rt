@@ -1,5 +1,6 @@
 // The search over the coded bits heard (document 01, demands 2 and 3): of all trains the one of least cost, and whether it is
-// confirmed. A coded bit comes as a soft byte counted from -128, or 0 where it was not heard. It refuses nothing: its callers have
+// confirmed. A coded bit comes as a soft byte counted from -128, or 0 where it was not heard, as
+// gauge's C names are lent it. It refuses nothing: its callers have
 // tested what they lend.
 #![tactic(auto)]
 
@@ -24,7 +25,7 @@ use step::{is_above, started, step};
 use words::follow;
 
 // Of all trains of n bits, the one of least cost; of equals, the one with 0 at the last place where the two differ. Its cost. (n and the
-// bytes heard stay two parameters: a caller has both at hand, and would make a struct of them for this one call.)
+// bytes heard stay two parameters, here, in `mark` and in `forward`: the promises and gauge's C names speak of each.)
 pub fn search(n: usize, heard: &[u8], train: &mut [u8], words: &mut [u64]) -> u32
     requires { (n ≤ 3472) × (2 * (n + 6) ≤ length heard.now) × (n ≤ length train.old) × (n + 6 ≤ length words.old) }
     ensures { Searched n heard.now train.old train.new words.old words.new result }

@@ -1,5 +1,4 @@
 pub mod HeldLaws
-pub mod SignLaws
 pub mod ClosedTest
 pub mod IdealTest
 pub mod Runs

@@ -76,7 +76,7 @@ fn lowered(x: u32) -> i8
     requires { x < 256 }
     ensures { result ≡ pos x -ℤ pos 128 }
 {
-    (x as i32 - 128) as i8
+    i8::MIN.saturating_add_unsigned(x as u8)
 }
 
 // The soft bytes of a reading of w bits, from `at` on: each bit is the first of those that are left. How many are left stays a parameter of

@@ -7,15 +7,7 @@ use Rattle.coder.proofs.code_on.Goals as goal
 pub loop-t-init : goal.loop-t-init
 loop-t-init c = coding_start _ _ _ _ _ _
 
-pub put_pair-requires : goal.put_pair-requires
-put_pair-requires c = omega (arith, c.loop-t.invariant.long)
-
 pub loop-t-preserved : goal.loop-t-preserved
 loop-t-preserved c =
     let is_bit = rw c.step.ensures.output.0 at c.input_bit-bit.ensures.0 in
     coding_again _ _ _ _ _ _ _ _ _ _ _ _ _ _ c.loop-t.invariant is_bit c.step.ensures.state c.enter.ensures c.put_pair.ensures
-
-pub returns : goal.returns
-returns c =
-    let all : c.loop-t.t ≡ c.args.end = omega arith in
-    rw all at c.loop-t.invariant.codes

@@ -5,14 +5,6 @@ use native.Mathlib.Omega.{arith}
 use Rattle.gauge.proofs.GaugeLaws.{marks_not, marks_so, marked_by, bits_train, bits_not}
 use Rattle.gauge.proofs.gauge_mark.Goals as goal
 
-pub returns-in_default : goal.returns-in_default
-returns-in_default c = marks_not _ _ _ (λ fit t. c.in_default.ensures fit)
-
-pub slice_bounds-bits_ok-end : goal.slice_bounds-bits_ok-end
-slice_bounds-bits_ok-end c =
-    let fit = c.in-Some.ensures in
-    omega (arith, fit.0, fit.1)
-
 pub returns-then-not-bits_ok : goal.returns-then-not-bits_ok
 returns-then-not-bits_ok c =
     let fit = c.in-Some.ensures in

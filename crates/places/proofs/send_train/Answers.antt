@@ -25,9 +25,6 @@ from c =
     ∙ ap (λ (l : List ℕ). get_or l c.loop-q.q 0) c.put_origins-n.ensures.put
     ∙ filled_at _ _ _ _ 0 (omega (arith, c.put_origins-n.ensures.n))
 
-pub put_origins-n-requires : goal.put_origins-n-requires
-put_origins-n-requires c = c.requires.inside
-
 pub loop-q-init : goal.loop-q-init
 loop-q-init c = sym (filled_none _ _)
 

@@ -31,17 +31,8 @@ from c =
 inside : (c : After-from) → origin (listed (pdus_in c.args.train.now) c.args.train.now.a) c.loop-q.q < length c.args.heard.now
 inside c = omega (arith, train_coded c.args.train.now c.requires.inside c.loop-q.q (omega (arith, c.put_origins-n.ensures.n)), c.requires.all_coded)
 
-pub put_origins-n-requires : goal.put_origins-n-requires
-put_origins-n-requires c = c.requires.inside
-
-pub loop-q-init : goal.loop-q-init
-loop-q-init c = placed_none _ _ _
-
 pub bounds-origins-q : goal.bounds-origins-q
 bounds-origins-q c = omega (arith, c.put_origins-n.ensures.n, train_few c.args.train.now)
-
-pub bounds-soft-q : goal.bounds-soft-q
-bounds-soft-q c = omega (arith, among (goal.at.bounds-soft-q c).In-loop-q, c.requires.room)
 
 pub bounds-heard-from : goal.bounds-heard-from
 bounds-heard-from c = let turn = (goal.at.bounds-heard-from c).After-from in omega (arith, from turn, inside turn, c.loop-q.invariant.long)

@@ -12,9 +12,6 @@ use Rattle.points.proofs.readings.Goals as goal
 pub loop-k-init : goal.loop-k-init
 loop-k-init c = record { on_i = sym (filled_none _ _); on_q = sym (filled_none _ _) }
 
-pub ideal_of-requires : goal.ideal_of-requires
-ideal_of-requires c = group_within _ _ _ c.loop-k-test.true c.requires.enough
-
 pub loop-k-preserved : goal.loop-k-preserved
 loop-k-preserved c =
     let r = c.ideal_of in

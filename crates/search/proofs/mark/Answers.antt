@@ -8,9 +8,6 @@ pub loop-t-init : goal.loop-t-init
 loop-t-init c =
     rw c.empty-register.ensures (marking_start _ _ _ _ c.requires.0 (λ m. (c.type_inv.heard m).fits) c.requires.2 c.started-costs.ensures)
 
-pub enter-requires : goal.enter-requires
-enter-requires c = input_bit _ _ _ _ c.loop-t.invariant.train c.input_of.ensures
-
 pub returns-then-not-is_above : goal.returns-then-not-is_above
 returns-then-not-is_above c =
     let inv = c.loop-t.invariant in

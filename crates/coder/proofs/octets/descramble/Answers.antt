@@ -12,8 +12,3 @@ loop-k-preserved c =
     let inv = c.loop-k.invariant in
     let octet = c.octet_of.ensures in
     descrambling_again _ _ _ _ _ _ _ _ _ inv (omega (arith, inv.long)) octet.0 octet.1
-
-pub returns : goal.returns
-returns c =
-    let all : c.loop-k.k ≡ c.args.n / 8 = omega arith in
-    rw all at c.loop-k.invariant.octets

@@ -8,11 +8,6 @@ use Rattle.modes.specs.Sizes.{sent_bits}
 use Rattle.modes.proofs.ModeLaws.{by_enums}
 use Rattle.modes.proofs.Pdu.sent_bits.Goals as goal
 
-pub overflow_mul-result : goal.overflow_mul-result
-overflow_mul-result c =
-    let wide : 48 * c.bits_per_carrier-per_symbol.result ≤ 288 = omega arith in
-    omega (arith, mul-le-mul c.symbols.ensures.1 wide)
-
 pub returns : goal.returns
 unfolding sent_bits
 returns c =

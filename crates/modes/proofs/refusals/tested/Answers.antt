@@ -40,7 +40,7 @@ returns c =
       list_first _ _ _ listed,
       ← sum,
       ← c.lengths_tested-each.ensures,
-      ← c.sum_outside.ensures,
+      ← c.length_outside.ensures,
       ← c.place_above-above.ensures,
       ← c.other_than-other.ensures,
     )

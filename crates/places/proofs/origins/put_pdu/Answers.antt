@@ -4,7 +4,7 @@ use mathlib.Core.Path.{refl, ap}
 use Prim.Native.Nat.{ℕ, ◌*◌}
 use native.Mathlib.Omega.{arith}
 use Rattle.modes.specs.Modes.{bits_of}
-use Rattle.places.proofs.SendLaws.{front_long, seats, symbol_inside, put_none, put_again}
+use Rattle.places.proofs.SendLaws.{front_long, front_seats, symbol_inside, put_none, put_again}
 use Rattle.places.proofs.origins.put_pdu.Goals as goal
 
 pub loop-symbol-init : goal.loop-symbol-init
@@ -13,7 +13,7 @@ loop-symbol-init c = put_none _ _ _ _ _
 pub put_symbol-requires-clause-seats : goal.put_symbol-requires-clause-seats
 put_symbol-requires-clause-seats c =
     rw (c.symbol_places-places.ensures, c.bits_per_carrier.ensures.0, front_long c.args.pdu.mode.constellation)
-    (seats c.args.pdu.mode.constellation _ refl)
+    (front_seats c.args.pdu.mode.constellation _ refl)
 
 pub loop-symbol-preserved : goal.loop-symbol-preserved
 loop-symbol-preserved c =

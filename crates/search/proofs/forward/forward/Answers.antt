@@ -25,8 +25,3 @@ loop-t-preserved c =
     let stored = c.step-turn.ensures.costs in
     forward_again _ _ _ _ _ _ _ _ _ _ _ _ inv pair stored _ _ (omega arith)
     (c.nearest-total.ensures _ (forward_near _ _ _ _ _ _ _ _ _ _ _ _ inv pair stored)) (c.word_of.ensures _ c.step-turn.ensures.kept)
-
-pub returns : goal.returns
-returns c =
-    let inv = c.loop-t.invariant in
-    record { cost = forward_cost _ _ _ _ _ _ _ inv (omega arith); decided = forward_words _ _ _ _ _ _ _ inv (omega arith) }

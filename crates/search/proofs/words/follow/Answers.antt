@@ -1,11 +1,8 @@
 -- `search::words::follow` goes back from state 0, one word a turn (FollowLaws).
 -- Assumes nothing.
 use Rattle.std.proofs.Common.{arith}
-use Rattle.search.proofs.FollowLaws.{following_none, following_again, train_found, words_zeroed}
+use Rattle.search.proofs.FollowLaws.{following_again, train_found, words_zeroed}
 use Rattle.search.proofs.words.follow.Goals as goal
-
-pub loop-t-init : goal.loop-t-init
-loop-t-init c = following_none _ _ _
 
 pub loop-t-preserved : goal.loop-t-preserved
 loop-t-preserved c =

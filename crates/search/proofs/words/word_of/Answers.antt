@@ -4,18 +4,5 @@ use Rattle.std.proofs.Common.{ℕ, ◌+◌, ◌*◌, ◌∙◌, ap₂, arith}
 use Rattle.search.proofs.WordLaws.{eight_most, word_packed}
 use Rattle.search.proofs.words.word_of.Goals as goal
 
-pub overflow_mul-result : goal.overflow_mul-result
-overflow_mul-result c = omega (arith, c.eight-2.ensures, eight_most c.args.chosen.now c.requires 8 (omega arith))
-
-pub overflow_add-result : goal.overflow_add-result
-overflow_add-result c =
-    omega (
-      arith,
-      c.eight.ensures,
-      c.eight-2.ensures,
-      eight_most c.args.chosen.now c.requires 0 (omega arith),
-      eight_most c.args.chosen.now c.requires 8 (omega arith),
-    )
-
 pub returns : goal.returns
 returns c = λ f chosen. ap₂ (λ (x y : ℕ). x + 2 * y) c.eight.ensures c.eight-2.ensures ∙ word_packed f _ chosen

@@ -11,9 +11,6 @@ use Rattle.modes.proofs.RefusalNumbers.{above_0}
 use Rattle.modes.proofs.TestLaws.{mode_known, length_on, length_stop, lengths_done}
 use Rattle.modes.proofs.description.PduList.lengths_tested.Goals as goal
 
-pub loop-k-init : goal.loop-k-init
-loop-k-init c = refl
-
 pub info_of-requires : goal.info_of-requires
 info_of-requires c = mode_known _ _ _ _ (omega arith) c.requires.1
 

@@ -18,9 +18,6 @@ same : (c : In-loop-mode) → ladder ((1 when mode_unknown (get_or (take c.args.
     ≡ ladder ((1 when mode_unknown (get_or c.args.self.now.modes c.loop-mode.mode-index 0)) ∷ [])
 same c = ap (λ (k : ℕ). ladder ((1 when mode_unknown k) ∷ [])) (counted_at _ _ _ c.loop-mode-test.true)
 
-pub loop-mode-init : goal.loop-mode-init
-loop-mode-init c = λ whatever. refl
-
 pub returns-in_err-try_from : goal.returns-in_err-try_from
 returns-in_err-try_from c =
     let p = err_from_is_err_and c.from_residual.result c.from_residual.ensures.1 in
