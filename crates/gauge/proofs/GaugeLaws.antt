@@ -4,23 +4,15 @@ use mathlib.Core.Path.{◌≡◌, refl, sym, ◌∙◌}
 use mathlib.Core.Bool.{Bool, true, false, false≢true}
 use mathlib.Core.Logic.{◌⊎◌, inl, inr}
 use mathlib.Core.List.{List}
-use Prim.Native.Nat.{ℕ, ◌+◌, ◌-◌, ◌≤◌}
-use native.Mathlib.Nat.{sub-zero}
+use Prim.Native.Nat.{ℕ, ◌≤◌}
 use native.Mathlib.Omega.{arith}
 use lib.ListN.{length, take, length-take}
 use mir.Val.{bool_byte}
 use Rattle.coder.specs.Train.{Train}
 use Rattle.points.specs.Levels.{all_bits}
 use Rattle.points.proofs.BitLaws.{bits_are, bits_all}
-use Rattle.search.specs.Promises.{Searched, Marked}
-use Rattle.gauge.specs.Gauge.{unfit, Lengths, Gauged, Marks}
-
-pub gauged_not : (n : ℕ) (heard train words : List ℕ) → (Lengths n heard train → n + 6 ≤ length words → ⊥) → Gauged n heard train words unfit train words
-gauged_not n heard train words never = record { fit = λ l h. absurd (never l h); not_fit = λ _. (refl, refl, refl) }
-
-pub gauged_so : (n r : ℕ) (heard train words train' words' : List ℕ) → Lengths n heard train → n + 6 ≤ length words
-    → Searched n heard train train' words words' r → Gauged n heard train words r train' words'
-gauged_so n r heard train words train' words' l h searched = record { fit = λ _ _. searched; not_fit = λ never. absurd (never l h) }
+use Rattle.search.specs.Promises.{Marked}
+use Rattle.gauge.specs.Gauge.{unfit, Lengths, Marks}
 
 pub marks_not : (n : ℕ) (heard train : List ℕ) → (Lengths n heard train → Train n (take n train) → ⊥) → Marks n heard train unfit
 marks_not n heard train never = record { fit = λ l t. absurd (never l t); not_fit = λ _. refl }
@@ -36,9 +28,9 @@ marked_by n r true heard train e marked = inl (e, marked)
 marked_by n r false heard train e marked = inr (e, marked)
 
 -- a train is its first n bytes, each a bit
-pub bits_train : (n : ℕ) (train : List ℕ) → n ≤ length train → all_bits (take (n - 0) train) ≡ true → Train n (take n train)
+pub bits_train : (n : ℕ) (train : List ℕ) → n ≤ length train → all_bits (take n train) ≡ true → Train n (take n train)
 bits_train n train room e =
-    record { count = simp length-take (omega arith); low = λ t h. bits_are (take n train) (rw (sub-zero n) at e) t }
+    record { count = simp length-take (omega arith); low = λ t h. bits_are (take n train) e t }
 
-pub bits_not : (n : ℕ) (train : List ℕ) → all_bits (take (n - 0) train) ≡ false → Train n (take n train) → ⊥
-bits_not n train e t = false≢true (sym (rw (sub-zero n) at e) ∙ bits_all (take n train) (λ k h. t.low k (omega (arith, t.count))))
+pub bits_not : (n : ℕ) (train : List ℕ) → all_bits (take n train) ≡ false → Train n (take n train) → ⊥
+bits_not n train e t = false≢true (sym e ∙ bits_all (take n train) (λ k h. t.low k (omega (arith, t.count))))

@@ -27,16 +27,6 @@ pub record Following (n : ℕ) (train₀ words₀ train words : List ℕ) (s t :
   pub trained : Trained n (followed (bit_in words₀) (n + 6) 0) train₀ train t
   pub done : Zeroed n words₀ words t
 
-pub following_none : (n : ℕ) (train words : List ℕ) → Following n train words train words 0 (n + 6)
-following_none n train words =
-    record {
-      counted = omega arith;
-      state = omega arith;
-      ahead = λ i. let e : n + 6 - (n + 6) + i ≡ i = omega arith in rw e refl;
-      trained = record { long = refl; found = λ k less past. absurd (omega arith); kept = λ k h. refl };
-      done = record { long = refl; zero_at = λ j low high. absurd (omega arith); unread = λ j h. refl; beyond = λ j h. refl };
-    }
-
 module _ (n : ℕ) (train₀ words₀ : List ℕ) (train_room : n ≤ length train₀) (words_room : n + 6 ≤ length words₀) where
   trained_again : (bits train : List ℕ) (t bit : ℕ) → t < n + 6 → get_or bits (n + 5 - t) 0 ≡ bit
       → Trained n bits train₀ train (suc t) → Trained n bits train₀ (choose (leb 6 t) (set train (t - 6) bit) train) t

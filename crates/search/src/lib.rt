@@ -1,7 +1,6 @@
 // The search over the coded bits heard (document 01, demands 2 and 3): of all trains the one of least cost, and whether it is
-// confirmed. A coded bit comes as a soft byte counted from -128, or 0 where it was not heard, as
-// gauge's C names are lent it. It refuses nothing: its callers have
-// tested what they lend.
+// confirmed. A coded bit comes as a soft byte counted from -128, or 0 where it was not heard (gauge lends C's so). It refuses nothing: its
+// callers have tested what they lend.
 #![tactic(auto)]
 
 mod costs;

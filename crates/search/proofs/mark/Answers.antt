@@ -1,7 +1,7 @@
 -- `search::mark` is the second pass, which ends where the other way into the train's state is not strictly above (MarkLaws).
 -- Assumes nothing.
 use Rattle.std.proofs.Common.{◌∙◌, sym, arith}
-use Rattle.search.proofs.MarkLaws.{marking_start, input_is, input_bit, marking_again, marked_not, marked_so}
+use Rattle.search.proofs.MarkLaws.{marking_start, input_is, marking_again, marked_not, marked_so}
 use Rattle.search.proofs.mark.Goals as goal
 
 pub loop-t-init : goal.loop-t-init

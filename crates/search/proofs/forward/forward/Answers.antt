@@ -1,7 +1,7 @@
 -- `search::forward::forward` is the first pass. Each turn is one step (ForwardLaws).
 -- Assumes nothing.
 use Rattle.std.proofs.Common.{arith}
-use Rattle.search.proofs.ForwardLaws.{forward_start, forward_low, forward_near, forward_again, forward_cost, forward_words}
+use Rattle.search.proofs.ForwardLaws.{forward_start, forward_low, forward_near, forward_again}
 use Rattle.search.proofs.WordLaws.{chosen_small}
 use Rattle.search.proofs.forward.forward.Goals as goal
 

@@ -1,7 +1,7 @@
 -- `search::words::word_of` joins sixteen bytes of choices (WordLaws).
 -- Assumes nothing.
-use Rattle.std.proofs.Common.{ℕ, ◌+◌, ◌*◌, ◌∙◌, ap₂, arith}
-use Rattle.search.proofs.WordLaws.{eight_most, word_packed}
+use Rattle.std.proofs.Common.{ℕ, ◌+◌, ◌*◌, ◌∙◌, ap₂}
+use Rattle.search.proofs.WordLaws.{word_packed}
 use Rattle.search.proofs.words.word_of.Goals as goal
 
 pub returns : goal.returns
