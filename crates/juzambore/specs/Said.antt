@@ -1,5 +1,6 @@
 -- What the C names make of their numbers, and of the answers of the calls.
 --   Said        a description says this kind, list, counter and a
+--   MappedAs    a mapped point in C's fields
 --   outcome_by  the outcome that C's fields tell
 --   SaidAs      a decode's answer in C's fields
 -- Assumes nothing.
@@ -10,9 +11,11 @@ use Rattle.modes.specs.declared.description.Description.{Description}
 use Rattle.modes.specs.Pdus.{Pdu}
 use Rattle.modes.specs.Refusal.{answer_of}
 use Rattle.modes.specs.Passed.{told}
+use Rattle.points.specs.declared.Point.{Point}
 use Rattle.modem.specs.declared.decode.Answer.{Answer}
-use Rattle.modem.specs.Told.{outcome_of}
+use Rattle.modem.specs.Told.{point_i, point_q, outcome_of}
 use Rattle.modem.specs.Decode.{Outcome, outcome}
+use Rattle.juzambore.specs.declared.JuzamborePoint.{JuzamborePoint}
 use Rattle.juzambore.specs.declared.JuzamboreAnswer.{JuzamboreAnswer}
 
 -- a description says this kind, list, counter and a
@@ -21,6 +24,12 @@ pub record Said (kind : Kind) (ps : List Pdu) (counter a : ℕ) (by : Descriptio
   pub list_is : told by.list ≡ ps
   pub counter_is : by.counter ≡ counter
   pub a_is : by.a ≡ a
+
+-- a mapped point in C's fields: the refusal's number and the two parts, +0 where it is refused
+pub record MappedAs (mapped : Result Point Refusal) (said : JuzamborePoint) : Type 0 where
+  pub refusal_is : said.refusal ≡ answer_of mapped
+  pub i_is : said.i ≡ point_i mapped
+  pub q_is : said.q ≡ point_q mapped
 
 -- the outcome that C's fields tell, with what is left in the lent buffers
 abbrev pub outcome_by : JuzamboreAnswer → (octets words : List ℕ) → Outcome

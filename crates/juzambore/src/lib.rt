@@ -12,9 +12,10 @@ ghost use Rattle.modem.specs.Ideal.{Ideal};
 ghost use Rattle.modem.specs.Point.{MapsTo};
 ghost use Rattle.modem.specs.Soften.{Soften};
 ghost use Rattle.modem.specs.Decode.{DecodeSoft, DecodeReadings};
-ghost use Rattle.juzambore.specs.Said.{Said, outcome_by, SaidAs};
+ghost use Rattle.juzambore.specs.Said.{Said, MappedAs, outcome_by, SaidAs};
 
 use modem::{Answer, Description, Kind, PduList, Refusal};
+use points::Point;
 
 #[repr(C)]
 #[derive(Drop)]
@@ -96,22 +97,31 @@ pub extern "C" fn juzambore_ideal(
     Refusal::answer(&modem::ideal(&listed(count, modes, lengths), sent, i, q))
 }
 
+// What `mapped` answers; +0 for both parts where it is refused.
+impl From<Result<Point, Refusal>> for JuzamborePoint {
+    ghost from_gives = { MappedAs };
+
+    fn from(mapped: Result<Point, Refusal>) -> JuzamborePoint {
+        match mapped {
+            Ok(point) => JuzamborePoint {
+                refusal: 0,
+                i: point.i,
+                q: point.q,
+            },
+            Err(refusal) => JuzamborePoint {
+                refusal: u32::from(refusal),
+                i: 0.0,
+                q: 0.0,
+            },
+        }
+    }
+}
+
 #[unsafe(no_mangle)]
 pub extern "C" fn juzambore_mapped(mode: u32, group: u32) -> JuzamborePoint
     ensures { MapsTo mode group result.refusal result.i result.q }
 {
-    match modem::mapped(mode, group) {
-        Ok(point) => JuzamborePoint {
-            refusal: 0,
-            i: point.i,
-            q: point.q,
-        },
-        Err(refusal) => JuzamborePoint {
-            refusal: u32::from(refusal),
-            i: 0.0,
-            q: 0.0,
-        },
-    }
+    JuzamborePoint::from(modem::mapped(mode, group))
 }
 
 #[unsafe(no_mangle)]
