@@ -176,7 +176,8 @@ pub extern "C" fn juzambore_decode_soft(
     octets: &mut [u8],
     words: &mut [u64],
 ) -> JuzamboreAnswer
-    ensures decode_soft { DecodeSoft (kind_of kind) (pdus_of count modes.now lengths.now) counter a soft.now octets.old words.old result.refusal (outcome_by result octets.new words.new) }
+    ensures decode_soft { DecodeSoft (kind_of kind) (pdus_of count modes.now lengths.now) counter a soft.now octets.old words.old
+        result.refusal (outcome_by result octets.new words.new) }
     ensures flag { result.confirmed ≤ 1 }
 {
     let by = described(kind, count, modes, lengths, counter, a);
@@ -196,7 +197,8 @@ pub extern "C" fn juzambore_decode_readings(
     octets: &mut [u8],
     words: &mut [u64],
 ) -> JuzamboreAnswer
-    ensures decode_readings { DecodeReadings (kind_of kind) (pdus_of count modes.now lengths.now) counter a i.now q.now octets.old words.old result.refusal (outcome_by result octets.new words.new) }
+    ensures decode_readings { DecodeReadings (kind_of kind) (pdus_of count modes.now lengths.now) counter a i.now q.now octets.old words.old
+        result.refusal (outcome_by result octets.new words.new) }
     ensures flag { result.confirmed ≤ 1 }
 {
     let by = described(kind, count, modes, lengths, counter, a);
