@@ -1,19 +1,8 @@
 -- `modem::decode::find`: soft bytes back to their coded bits, and the train that is then picked.
 -- Assumes nothing.
-use native.Mathlib.Omega.{arith}
 use Rattle.modem.proofs.HeardLaws.{all_heard, same_cost, same_differing}
 use Rattle.modem.proofs.PickLaws.{chosen_same}
 use Rattle.modem.proofs.decode.find.Goals as goal
-
-pub spread_train-requires : goal.spread_train-requires
-spread_train-requires c =
-    record { inside = c.requires.legal.inside; all_coded = omega (arith, c.requires.legal.fit.to_3456); room = omega (arith, c.requires.soft_fit.0) }
-
-pub pick-requires-clause-heard_long : goal.pick-requires-clause-heard_long
-pick-requires-clause-heard_long c = omega (arith, c.requires.legal.fit.to_3456, c.spread_train.auto.heard)
-
-pub pick-requires-clause-counter : goal.pick-requires-clause-counter
-pick-requires-clause-counter c = c.requires.legal.to_15
 
 pub returns : goal.returns
 returns c =
