@@ -18,11 +18,6 @@ code-requires c =
       omega (arith, n, all),
     )
 
-pub send_train-requires : goal.send_train-requires
-send_train-requires c =
-    let legal = c.requires.legal in
-    record { inside = legal.inside; all_coded = omega (arith, legal.fit.to_3456); room = c.requires.sent_room }
-
 pub returns : goal.returns
 returns c =
     train_sent _ _ _ c.requires.legal _ _ _ _ _ _ _ _ c.counts-n.ensures.n c.first_scrambled-first.ensures c.requires.counter_same c.code.ensures c.send_train.ensures
