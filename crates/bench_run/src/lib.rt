@@ -13,8 +13,8 @@ use std::io::Read;
 
 fn print_line(rt: &impl Print, k: u64, line: Result<Line, Refusal>) -> io::Result<()> {
     let refusal = Refusal::answer(&line);
-    let mark = char::from(record::mark_of(line.map(|line| line.confirmed)));
     let line = line.unwrap_or_default();
+    let mark = char::from(record::mark_of(refusal, line.confirmed));
     println!(rt;
         "{k} {refusal} {} {} {} {mark}",
         line.symbols, line.n, line.cost

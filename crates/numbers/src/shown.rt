@@ -103,8 +103,8 @@ pub(crate) struct Decoded<'a> {
 impl fmt::Display for Decoded<'_> {
     fn fmt<W: fmt::Write>(&self, f: &mut fmt::Formatter<W>) -> fmt::Result {
         let refusal = Refusal::answer(&self.answer);
-        let mark = char::from(record::mark_of(self.answer.map(|answer| answer.confirmed)));
         let answer = self.answer.unwrap_or_default();
+        let mark = char::from(record::mark_of(refusal, answer.confirmed));
         write!(
             f,
             "{refusal} {} {} {} {mark} {} {} {}",

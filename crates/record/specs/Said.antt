@@ -1,10 +1,9 @@
 -- What the source's values say of a record.
 --   said     the description of a list of one PDU of data
 --   line_in  the line of an answer: all zero and not confirmed where the record is refused
---   sure     the mark of an answer
 --   Runs     a line comes of a run
 -- Assumes nothing.
-use Rattle.std.specs.Prelude.{ℕ, Bool, false, List, replicate, Result, Ok, Err}
+use Rattle.std.specs.Prelude.{ℕ, false, List, replicate, Result, Ok, Err}
 use Rattle.modes.specs.declared.Kind.TheVariants.{Data}
 use Rattle.modes.specs.declared.refusal.Refusal.{Refusal}
 use Rattle.modes.specs.declared.description.Description.{Description}
@@ -24,11 +23,6 @@ line_by l = line l.symbols l.n l.cost l.confirmed
 abbrev pub line_in : Result source.Line Refusal → Line
 line_in (Ok l) = line_by l
 line_in (Err _) = line 0 0 0 false
-
--- the mark of an answer
-abbrev pub sure : Result Bool Refusal → Bool
-sure (Ok confirmed) = confirmed
-sure (Err _) = false
 
 -- a line comes of a run
 abbrev pub Runs : (mode counter N a : ℕ) → List ℕ → source.Line → Type 0

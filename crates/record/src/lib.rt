@@ -9,7 +9,7 @@ ghost use Rattle.modes.specs.Sizes.{octets_of};
 ghost use Rattle.modes.specs.Refusals.{described};
 ghost use Rattle.modes.specs.Refusal.{answer_of};
 ghost use Rattle.record.specs.Record.{two, line_refusal, LineOf, mark_of};
-ghost use Rattle.record.specs.Said.{said, line_in, sure, Runs};
+ghost use Rattle.record.specs.Said.{said, line_in, Runs};
 
 use modem::{Description, Kind, PduList, Refusal};
 use modes::{Mode, Pdu, Train};
@@ -111,13 +111,13 @@ pub fn line_of(bytes: &[u8; 60]) -> Result<Line, Refusal>
     Ok(run(mode, counter, n, a, &bytes[6..end]))
 }
 
-// The last letter of a line.
-pub fn mark_of(confirmed: Result<bool, Refusal>) -> u8
-    ensures { result ≡ mark_of (answer_of confirmed) (sure confirmed) }
+// The last letter of a line. It takes a number and a flag since any number may be given: a Refusal would be narrower.
+pub fn mark_of(refusal: u32, confirmed: bool) -> u8
+    ensures { result ≡ mark_of refusal confirmed }
 {
-    match confirmed {
-        Ok(true) => b'C',
-        Ok(false) => b'D',
-        Err(_) => b'-',
+    match (refusal, confirmed) {
+        (0, true) => b'C',
+        (0, false) => b'D',
+        _ => b'-',
     }
 }
