@@ -8,10 +8,10 @@ ghost use Rattle.laws.specs.Ladder.{ladder};
 ghost use Rattle.modes.specs.Sizes.{octets_of};
 ghost use Rattle.modes.specs.Refusals.{described};
 ghost use Rattle.modes.specs.Refusal.{answer_of};
-ghost use Rattle.record.specs.Record.{two, line_refusal, LineOf, mark_of};
-ghost use Rattle.record.specs.Said.{said, line_in, Runs};
+ghost use Rattle.record.specs.Record.{two, line_refusal, line, LineOf, mark_of};
+ghost use Rattle.record.specs.Said.{said, line_by, line_in, Runs};
 
-use modem::{Description, Kind, PduList, Refusal};
+use modem::{Answer, Description, Kind, PduList, Refusal};
 use modes::{Mode, Pdu, Train};
 
 // What the line of a record says that is not refused: its symbols, the sent bits, the rounded cost and the mark. Of
@@ -22,6 +22,20 @@ pub struct Line {
     pub n: u32,
     pub cost: u32,
     pub confirmed: bool,
+}
+
+// What a decode answers, but for its comparisons.
+impl From<Answer> for Line {
+    ghost from_gives = { λ answer said. line_by said ≡ line answer.symbols answer.n answer.cost answer.confirmed };
+
+    fn from(answer: Answer) -> Line {
+        Line {
+            symbols: answer.symbols,
+            n: answer.n,
+            cost: answer.cost,
+            confirmed: answer.confirmed,
+        }
+    }
 }
 
 // A list of one PDU of data.
@@ -83,12 +97,7 @@ fn run(mode: u32, counter: u32, n: u32, a: u32, octets: &[u8]) -> Line
         &mut back,
         &mut words,
     ).unwrap();
-    Line {
-        symbols: answer.symbols,
-        n: answer.n,
-        cost: answer.cost,
-        confirmed: answer.confirmed,
-    }
+    Line::from(answer)
 }
 
 // Two bytes, high byte first.

@@ -81,6 +81,7 @@ pub returns : goal.returns
 unfolding pdus_of tabulate
 returns c =
     let turn = (goal.at.returns c).After-symbols-carriers in
+    rw c.from.ensures
     (run_done c.args.mode c.args.counter c.args.n c.args.a c.requires.tested.0 c.requires.tested.1 _ _ _ _ _ _ _ _ _ _ _ _ _ _ _ (λ k. (c.type_inv.octets k).fits)
     c.requires.octets_long refl refl refl refl refl (bits turn) (all turn)
     (rw c.described-by.ensures at c.encode.ensures) (rw c.described-by.ensures at c.ideal.ensures)
