@@ -18,9 +18,8 @@ ghost use Rattle.modes.specs.Passed.{ModeOf};
 pub use description::{Description, PduList};
 pub use kinds::first_scrambled;
 pub use refusal::Refusal;
-pub use train::{Counts, Train};
-
 use std::fmt;
+pub use train::{Counts, Train};
 
 #[derive(Clone, Copy, Debug, Default, PartialEq, Eq)]
 pub enum Constellation {

@@ -1,6 +1,5 @@
 -- `coder::code_on` codes some of the inputs. Each turn is one step of scrambler and register (CodeLaws).
 -- Assumes nothing.
-use Rattle.std.proofs.Common.{◌≡◌, arith}
 use Rattle.coder.proofs.CodeLaws.{coding_start, coding_again}
 use Rattle.coder.proofs.code_on.Goals as goal
 

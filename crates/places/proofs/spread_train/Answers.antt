@@ -7,7 +7,7 @@ use native.Mathlib.Omega.{arith}
 use lib.ListN.{length, get_or}
 use Rattle.std.proofs.Common.{rules}
 use Rattle.laws.proofs.ListLaws.{filled_at}
-use Rattle.laws.proofs.ScatterLaws.{placed_none, placed_again}
+use Rattle.laws.proofs.ScatterLaws.{placed_again}
 use Rattle.modes.specs.Passed.{pdus_in}
 use Rattle.modes.specs.Pdus.{sent_of}
 use Rattle.places.specs.Selection.{origin}

@@ -6,7 +6,6 @@ use mir.Syntax.{w16}
 use Rattle.laws.proofs.ListLaws.{filled_none, filled_put}
 use Rattle.laws.proofs.SignedLaws.{kept}
 use Rattle.points.specs.Points.{ideal_i, ideal_q}
-use Rattle.points.proofs.BitLaws.{group_within}
 use Rattle.points.proofs.readings.Goals as goal
 
 pub loop-k-init : goal.loop-k-init

@@ -2,7 +2,6 @@
 -- Assumes nothing.
 use mathlib.Core.Path.{sym}
 use native.Mathlib.Nat.{mul-zero}
-use native.Mathlib.Omega.{arith}
 use Rattle.laws.proofs.ListLaws.{filled_none}
 use Rattle.modes.specs.Modes.{bits_of}
 use Rattle.points.proofs.BitLaws.{group_within}
@@ -11,11 +10,6 @@ use Rattle.soft.proofs.soften.Goals as goal
 
 pub loop-k-init : goal.loop-k-init
 loop-k-init c = rw mul-zero (sym (filled_none _ _))
-
-pub put_carrier-requires : goal.put_carrier-requires
-put_carrier-requires c =
-    let room = group_within (bits_of c.args.c) _ _ c.loop-k-test.true c.requires.room in
-    (omega arith, omega arith, omega (arith, room))
 
 pub loop-k-preserved : goal.loop-k-preserved
 loop-k-preserved c =

@@ -1,6 +1,6 @@
 -- `coder::octets::descramble` writes a train's octets one after the other.
 -- Assumes nothing.
-use Rattle.std.proofs.Common.{◌≡◌, ◌/◌, arith}
+use Rattle.std.proofs.Common.{arith}
 use Rattle.coder.proofs.OctetLaws.{descrambling_none, descrambling_again}
 use Rattle.coder.proofs.octets.descramble.Goals as goal
 

@@ -1,9 +1,7 @@
 -- `modes::Pdu::sent_bits` is the symbols times the sent bits per symbol.
 -- Assumes nothing.
 use mathlib.Core.Path.{sym, ◌∙◌, ap, ap₂}
-use Prim.Native.Nat.{ℕ, ◌*◌, ◌≤◌}
-use native.Mathlib.Nat.{mul-le-mul}
-use native.Mathlib.Omega.{arith}
+use Prim.Native.Nat.{ℕ, ◌*◌}
 use Rattle.modes.specs.Sizes.{sent_bits}
 use Rattle.modes.proofs.ModeLaws.{by_enums}
 use Rattle.modes.proofs.Pdu.sent_bits.Goals as goal

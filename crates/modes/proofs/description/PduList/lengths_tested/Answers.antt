@@ -1,6 +1,6 @@
 -- `modes::description::PduList::lengths_tested` is the ladder of refusals 3, 4 and 5 PDU by PDU.
 -- Assumes nothing.
-use mathlib.Core.Path.{refl, sym, ◌∙◌, ap}
+use mathlib.Core.Path.{sym, ◌∙◌, ap}
 use Prim.Native.Nat.{ℕ}
 use native.Mathlib.Omega.{arith}
 use lib.ListN.{get_or}
