@@ -17,15 +17,8 @@ use Rattle.modes.specs.Pdus.{pdus_of}
 use Rattle.modes.specs.Passed.{told}
 use Rattle.modes.proofs.RefusalLaws.{one_described}
 use Rattle.laws.specs.Lists.{tabulate}
-use Rattle.record.specs.Said.{said}
+use Rattle.record.specs.Said.{Fields, said}
 use Rattle.record.specs.Record.{mode_of, counter_of, length_of, place_of, octets_used, line_refusal, Line, line, Run, LineOf}
-
--- the fields as they were read
-pub record Fields (bytes : List ℕ) (mode counter N a : ℕ) : Type 0 where
-  pub mode_is : mode ≡ mode_of bytes
-  pub counter_is : counter ≡ counter_of bytes
-  pub n_is : N ≡ length_of bytes
-  pub a_is : a ≡ place_of bytes
 
 -- not refused: the description passes, and N is 432 at most
 pub line_passed : (mode counter N a : ℕ) → line_refusal mode counter N a ≡ 0 → (ladder (described mode counter N a) ≡ 0) × (N ≤ 432)

@@ -1,24 +1,25 @@
 -- A record of which all has been tested: encode, ideal and decode_readings of a list of one PDU are done, one after the other, and make a run
 -- of document 01's train.
 -- Assumes nothing.
-use mathlib.Core.Path.{◌≡◌, refl, sym, ◌∙◌, ap, ap₂}
+use mathlib.Core.Path.{◌≡◌, refl, sym, ◌∙◌, ap}
 use mathlib.Core.Bool.{true, not}
 use mathlib.Core.List.{List}
-use Prim.Native.Nat.{ℕ, ◌*◌, ◌≤◌, ◌<◌}
+use Prim.Native.Nat.{ℕ, ◌≤◌, ◌<◌}
 use native.Mathlib.Omega.{arith}
 use lib.IntN.{ℤ}
 use lib.ListN.{length, get_or, take}
 use borrow.Author.Tests.{le-ltb, eq-eqb}
 use Rattle.laws.specs.Ladder.{ladder}
+use Rattle.laws.specs.Lists.{tabulate}
 use Rattle.laws.proofs.LadderLaws.{given_goes_on}
 use Rattle.modes.specs.declared.Kind.TheVariants.{Data}
-use Rattle.modes.specs.declared.Mode.{Mode}
-use Rattle.modes.specs.Modes.{constellation_of, rate_of, number, number_of}
+use Rattle.modes.specs.declared.train.Train.{Train}
+use Rattle.modes.specs.declared.description.Description.{Description}
 use Rattle.modes.specs.Sizes.{symbols, carriers, sent_bits, octets_of}
-use Rattle.modes.specs.Pdus.{one, length_of, carriers_of, sent_of}
+use Rattle.modes.specs.Pdus.{one, pdus_of, length_of, symbols_of, carriers_of, sent_of}
+use Rattle.modes.specs.Passed.{told, pdus_in}
 use Rattle.modes.specs.Refusals.{described, list_described, encode_described}
 use Rattle.modes.specs.Description.{Fit, EachFit, LegalList}
-use Rattle.modes.proofs.ModeLaws.{number_back}
 use Rattle.modes.proofs.RefusalLaws.{one_described, list_legal}
 use Rattle.modes.proofs.SizeLaws.{sent_within, symbols_of_within}
 use Rattle.modem.specs.Encode.{encode_refusal, Encode}
@@ -28,8 +29,34 @@ use Rattle.modem.proofs.SizeLaws.{carriers_symbols}
 use Rattle.modem.proofs.LentLaws.{lent_passes}
 use Rattle.modem.proofs.ChainLaws.{chain_ideal, chain_done}
 use Rattle.modem.proofs.Demands.{demand_2_given_back}
-use Rattle.modem.proofs.One.{one_length, one_carriers, one_sent, one_encode, one_ideal, one_decode_readings}
+use Rattle.modem.proofs.One.{one_length, one_symbols, one_carriers, one_sent, one_encode, one_ideal, one_decode_readings}
 use Rattle.record.specs.Record.{Line, line, Run}
+use Rattle.record.specs.Said.{said}
+
+-- what the calls promise of the description of a record, they promise of its one PDU
+module _ (mode counter N a : ℕ) (by : Description) (is : by ≡ said mode counter N a) where
+  pub said_encode : (octets sent₀ : List ℕ) (r : ℕ) (sent : List ℕ)
+      → Encode by.kind (told by.list) by.counter by.a octets sent₀ r sent → Encode Data (one mode N) counter a octets sent₀ r sent
+  unfolding pdus_of tabulate
+  said_encode octets sent₀ r sent p = rw is at p
+
+  pub said_ideal : (sent : List ℕ) (i₀ q₀ : List ℤ) (r : ℕ) (i q : List ℤ)
+      → Ideal (told by.list) sent i₀ q₀ r i q → Ideal (one mode N) sent i₀ q₀ r i q
+  unfolding pdus_of tabulate
+  said_ideal sent i₀ q₀ r i q p = rw is at p
+
+  pub said_decoded : (i q : List ℤ) (octets words : List ℕ) (r : ℕ) (o : Outcome)
+      → DecodeReadings by.kind (told by.list) by.counter by.a i q octets words r o → DecodeReadings Data (one mode N) counter a i q octets words r o
+  unfolding pdus_of tabulate
+  said_decoded i q octets words r o p = rw is at p
+
+-- the sizes of a train of one PDU
+module _ (mode N : ℕ) (t : Train) (is : pdus_in t ≡ one mode N) where
+  pub counted_symbols : (n : ℕ) → n ≡ symbols_of (pdus_in t) → n ≡ symbols mode N
+  counted_symbols n e = e ∙ ap symbols_of is ∙ one_symbols mode N
+
+  pub counted_sent : (n : ℕ) → n ≡ sent_of (pdus_in t) → n ≡ sent_bits mode N
+  counted_sent n e = e ∙ ap sent_of is ∙ one_sent mode N
 
 module _ (mode counter N a : ℕ) (passed : ladder (described mode counter N a) ≡ 0) (small : N ≤ 432) where
   zero : ladder (list_described (one mode N) counter a) ≡ 0
@@ -58,21 +85,6 @@ module _ (mode counter N a : ℕ) (passed : ladder (described mode counter N a) 
       ∙ given_goes_on _ _ zero
       ∙ lent_passes 12 _ _ _ (ap not (eq-eqb (length octets) _ (whole ∙ ap octets_of (sym (one_length mode N)))))
       (le-ltb (length sent₀) (sent_of (one mode N)) (omega (arith, one_sent mode N, few_sent, room))) refl
-
-  -- the Mode that holds the mode
-  module _ (m : Mode) (is : (m.constellation ≡ constellation_of mode) × (m.rate ≡ rate_of mode)) where
-    same_mode : number m ≡ mode
-    same_mode = ap₂ number_of is.0 is.1 ∙ number_back mode fit.from_1 fit.to_7
-
-    pub made_fit : Fit (number m) N
-    made_fit = rw same_mode fit
-
-    pub made_sent : sent_bits (number m) N ≡ sent_bits mode N
-    made_sent = ap (λ (k : ℕ). sent_bits k N) same_mode
-
-    pub made_carriers : (s : ℕ) → s ≡ symbols (number m) N → 48 * s ≡ carriers mode N
-    unfolding carriers
-    made_carriers s e = ap (λ (k : ℕ). 48 * k) (e ∙ ap (λ (k : ℕ). symbols k N) same_mode)
 
   -- the ideal readings are taken where the octets are encoded
   pub taken_done : (octets sent₀ sent : List ℕ) (i₀ q₀ i q : List ℤ) (bits r₁ r₂ : ℕ) → length octets ≡ octets_of N
