@@ -7,11 +7,15 @@ use mathlib.Core.List.{◌∷◌}
 use Prim.Native.Nat.{ℕ, suc, ◌≤◌}
 use lib.Dec.{eqb, ltb}
 use borrow.Author.Tests.{eqb-true, ltb-false, not-false}
+use Rattle.std.specs.Prelude.{Option}
+use Rattle.std.specs.Bool.{then_some}
 use Rattle.laws.specs.Ladder.{given, ladder}
 use Rattle.laws.specs.Answers.{Leaves}
 use Rattle.laws.proofs.AnswerLaws.{refused_with, done_with}
 use Rattle.laws.proofs.LadderLaws.{ladder_passed, given_stops, given_goes_on, given_passed}
-use Rattle.modem.specs.Lent.{lent}
+use Rattle.modes.specs.declared.refusal.Refusal.{Refusal}
+use Rattle.modes.specs.Refusal.{refusal_number}
+use Rattle.modem.specs.Lent.{lent, lent_by}
 
 -- neither of two tests holds
 pub neither : (x y : Bool) → (x || y) ≡ false → (x ≡ false) × (y ≡ false)
@@ -29,6 +33,20 @@ pub enough_room : (x y m n : ℕ) → (ltb x m || ltb y n) ≡ false → (m ≤ 
 enough_room x y m n e =
     let (a, b) = neither _ _ e in
     (ltb-false x m a, ltb-false y n b)
+
+-- a refusal that is there only where the value is not allowed is the last test
+value_last : (refusal : Refusal) (wrong short outside : Bool)
+    → ladder (lent_by wrong short (then_some outside refusal)) ≡ ladder (lent (refusal_number refusal) wrong short outside)
+unfolding ladder
+value_last refusal wrong short true = refl
+value_last refusal true short false = refl
+value_last refusal false true false = refl
+value_last refusal false false false = refl
+
+-- so the test of a value is its refusal, where it is not allowed
+pub value_tested : (refusal : Refusal) (wrong short outside : Bool) (value : Option Refusal) (r : ℕ) → value ≡ then_some outside refusal
+    → r ≡ ladder (lent_by wrong short value) → r ≡ ladder (lent (refusal_number refusal) wrong short outside)
+value_tested refusal wrong short outside value r is e = (rw is at e) ∙ value_last refusal wrong short outside
 
 -- lent slices that pass
 pub lent_passed : (k : ℕ) (wrong short outside : Bool) → ladder (lent (suc k) wrong short outside) ≡ 0 → (wrong ≡ false) × (short ≡ false) × (outside ≡ false)

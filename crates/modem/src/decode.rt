@@ -86,6 +86,7 @@ pub fn decode_soft(
     let counts = train.counts();
     let short = room_short(counts.n, octets.len(), words.len());
     let in_range = soft::soft_ok(soft);
-    lent_tested(Refusal::Value, soft.len() != counts.sent, short, !in_range)?;
+    let value = (!in_range).then_some(Refusal::Value);
+    lent_tested(soft.len() != counts.sent, short, value)?;
     Ok(find(&train, soft, octets, words))
 }

@@ -1,21 +1,16 @@
 // What the slices that a call is lent are tested for, once its description has passed: refusals 7, 8, and 9 or the one in its place.
 ghost use Rattle.std.specs.Prelude.{◌≡◌, ◌||◌, ◌+◌, ◌≤◌, not, eqb, ltb};
 ghost use Rattle.laws.specs.Ladder.{ladder};
-ghost use Rattle.modes.specs.Refusal.{answer_of, refusal_number};
+ghost use Rattle.modes.specs.Refusal.{answer_of};
 ghost use Rattle.modes.specs.Sizes.{octets_of};
-ghost use Rattle.modem.specs.Lent.{lent};
+ghost use Rattle.modem.specs.Lent.{lent_by};
 
 use modes::Refusal;
 
-// An input slice of the wrong length, an output or working slice too short, a value that is not allowed.
+// An input slice of the wrong length, an output or working slice too short, and the refusal of a value that is not allowed.
 #[tactic(auto, unfolding(laws::specs::Ladder::ladder))]
-pub(crate) fn lent_tested(
-    value: Refusal,
-    wrong: bool,
-    short: bool,
-    outside: bool,
-) -> Result<(), Refusal>
-    ensures { answer_of result ≡ ladder (lent (refusal_number value) wrong short outside) }
+pub(crate) fn lent_tested(wrong: bool, short: bool, value: Option<Refusal>) -> Result<(), Refusal>
+    ensures { answer_of result ≡ ladder (lent_by wrong short value) }
 {
     if wrong {
         return Err(Refusal::Input);
@@ -23,7 +18,10 @@ pub(crate) fn lent_tested(
     if short {
         return Err(Refusal::Room);
     }
-    if outside { Err(value) } else { Ok(()) }
+    match value {
+        Some(refusal) => Err(refusal),
+        None => Ok(()),
+    }
 }
 
 // Whether the readings of I or of Q are not as many as the carriers.

@@ -61,10 +61,9 @@ pub fn encode(by: &Description, octets: &[u8], sent: &mut [u8]) -> Result<(), Re
     let counts = train.counts();
     let other = counter_other(by.kind, by.counter, octets);
     lent_tested(
-        Refusal::Kind,
         octets.len() != counts.n / 8,
         sent.len() < counts.sent,
-        other,
+        other.then_some(Refusal::Kind),
     )?;
     send(&train, octets, sent);
     Ok(())
@@ -103,7 +102,8 @@ pub fn ideal(list: &PduList, sent: &[u8], i: &mut [i16], q: &mut [i16]) -> Resul
     let counts = train.counts();
     let short = axes_short(48 * counts.symbols, i.len(), q.len());
     let bits = points::bits_ok(sent);
-    lent_tested(Refusal::Value, sent.len() != counts.sent, short, !bits)?;
+    let value = (!bits).then_some(Refusal::Value);
+    lent_tested(sent.len() != counts.sent, short, value)?;
     read_train(&train, sent, i, q);
     Ok(())
 }

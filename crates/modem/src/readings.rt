@@ -42,7 +42,7 @@ pub fn soften(list: &PduList, i: &[i16], q: &[i16], soft: &mut [i8]) -> Result<(
     let train = Train::sized(list)?;
     let counts = train.counts();
     let wrong = readings_wrong(48 * counts.symbols, i.len(), q.len());
-    lent_tested(Refusal::Value, wrong, soft.len() < counts.sent, false)?;
+    lent_tested(wrong, soft.len() < counts.sent, None)?;
     soften_train(&train, i, q, soft);
     Ok(())
 }
@@ -61,7 +61,7 @@ pub fn decode_readings(
     let counts = train.counts();
     let wrong = readings_wrong(48 * counts.symbols, i.len(), q.len());
     let short = room_short(counts.n, octets.len(), words.len());
-    lent_tested(Refusal::Value, wrong, short, false)?;
+    lent_tested(wrong, short, None)?;
     let mut soft = [0; 6912];
     soften_train(&train, i, q, &mut soft);
     Ok(find(&train, &soft[..counts.sent], octets, words))

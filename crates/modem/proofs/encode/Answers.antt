@@ -9,7 +9,7 @@ use Rattle.modes.specs.Passed.{told}
 use Rattle.modes.proofs.KindLaws.{encode_legal}
 use Rattle.modes.proofs.RefusalNumbers.{above_0}
 use Rattle.modem.specs.Encode.{encode_refusal, Encode}
-use Rattle.modem.proofs.LentLaws.{lent_passed, described_refused, lent_refused, all_done}
+use Rattle.modem.proofs.LentLaws.{value_tested, lent_passed, described_refused, lent_refused, all_done}
 use Rattle.modem.proofs.PassedLaws.{Tallied, tallied, passed_legal, passed_sent}
 use Rattle.modem.proofs.encode.Goals.{After-counts-counts}
 use Rattle.modem.proofs.encode.Goals as goal
@@ -30,13 +30,14 @@ returns-in_err-lent_tested c =
     let p = err_from_is_err_and c.from_residual-in_err-lent_tested.result c.from_residual-in_err-lent_tested.ensures.1 in
     rw (p.1, p.2)
     (lent_refused _ _ _ _ _ _ _ (sym c.in_ok-train.ensures.answer) _
-    (rw (← count.n_is, ← count.sent_is, ← c.counter_other-other.ensures) c.in_err-lent_tested.ensures) (above_0 _))
+    (rw (← count.n_is, ← count.sent_is, ← c.counter_other-other.ensures)
+    (value_tested _ _ _ _ _ _ c.then_some.ensures c.in_err-lent_tested.ensures)) (above_0 _))
 
 pub send-requires : goal.send-requires
 unfolding octets_of
 send-requires c =
     let holds = c.in_ok-train.ensures.done in
-    let (wrong, short, other) = lent_passed 11 _ _ _ (sym c.in_ok-lent_tested.ensures) in record {
+    let (wrong, short, other) = lent_passed 11 _ _ _ (sym (value_tested _ _ _ _ _ _ c.then_some.ensures c.in_ok-lent_tested.ensures)) in record {
       legal = passed_legal holds (encode_legal c.args.by.now.kind _ _ _ (sym c.in_ok-train.ensures.answer));
       octets_long = rw c.counts-counts.ensures.n at (eqb-true _ _ (not-false _ wrong));
       sent_room = omega (arith, c.counts-counts.ensures.sent, ltb-false _ _ short);
@@ -48,5 +49,6 @@ unfolding Encode encode_refusal octets_of
 returns c =
     let count = count (goal.at.returns c).After-counts-counts in
     all_done _ _ _ _ _ _ _ (sym c.in_ok-train.ensures.answer)
-    (rw (← count.n_is, ← count.sent_is, ← c.counter_other-other.ensures) (sym c.in_ok-lent_tested.ensures))
+    (rw (← count.n_is, ← count.sent_is, ← c.counter_other-other.ensures)
+    (sym (value_tested _ _ _ _ _ _ c.then_some.ensures c.in_ok-lent_tested.ensures)))
     _ (passed_sent c.in_ok-train.ensures.done _ _ _ c.send.ensures)

@@ -9,7 +9,7 @@ use Rattle.std.proofs.lemmas.Result.{err_from_is_err_and}
 use Rattle.modes.specs.Passed.{told}
 use Rattle.modes.proofs.RefusalNumbers.{above_0}
 use Rattle.modem.specs.Ideal.{ideal_refusal, Ideal}
-use Rattle.modem.proofs.LentLaws.{enough_room, lent_passed, described_refused, lent_refused, all_done}
+use Rattle.modem.proofs.LentLaws.{value_tested, enough_room, lent_passed, described_refused, lent_refused, all_done}
 use Rattle.modem.proofs.PassedLaws.{Tallied, tallied, train_short, train_carriers, passed_read}
 use Rattle.modem.proofs.ideal.Goals.{After-counts-counts}
 use Rattle.modem.proofs.ideal.Goals as goal
@@ -33,12 +33,13 @@ returns-in_err-lent_tested c =
     let p = err_from_is_err_and c.from_residual-in_err-lent_tested.result c.from_residual-in_err-lent_tested.ensures.1 in
     rw (p.1, p.2)
     (lent_refused _ _ _ _ _ _ _ (sym c.in_ok-train.ensures.answer) _
-    (rw (← count.sent_is, ← count.carriers_is, ← c.axes_short-short.ensures, ← c.bits_ok-bits.ensures) c.in_err-lent_tested.ensures)
+    (rw (← count.sent_is, ← count.carriers_is, ← c.axes_short-short.ensures, ← c.bits_ok-bits.ensures)
+    (value_tested _ _ _ _ _ _ c.then_some-value.ensures c.in_err-lent_tested.ensures))
     (above_0 _))
 
 pub read_train-requires : goal.read_train-requires
 read_train-requires c =
-    let (wrong, short, _) = lent_passed 8 _ _ _ (sym c.in_ok-lent_tested.ensures) in
+    let (wrong, short, _) = lent_passed 8 _ _ _ (sym (value_tested _ _ _ _ _ _ c.then_some-value.ensures c.in_ok-lent_tested.ensures)) in
     let carriers = 48 * c.counts-counts.result.symbols in
     let (on_i, on_q) = enough_room (length c.args.i.now) (length c.args.q.now) carriers carriers (sym c.axes_short-short.ensures ∙ short) in
     let all_carriers = train_carriers c.in_ok-train.train c.counts-counts.ensures.symbols in record {
@@ -51,5 +52,6 @@ unfolding Ideal ideal_refusal
 returns c =
     let count = count (goal.at.returns c).After-counts-counts in
     all_done _ _ _ _ _ _ _ (sym c.in_ok-train.ensures.answer)
-    (rw (← count.sent_is, ← count.carriers_is, ← c.axes_short-short.ensures, ← c.bits_ok-bits.ensures) (sym c.in_ok-lent_tested.ensures))
+    (rw (← count.sent_is, ← count.carriers_is, ← c.axes_short-short.ensures, ← c.bits_ok-bits.ensures)
+    (sym (value_tested _ _ _ _ _ _ c.then_some-value.ensures c.in_ok-lent_tested.ensures)))
     _ (passed_read c.in_ok-train.ensures.done _ _ _ _ _ c.read_train.ensures.i c.read_train.ensures.q)

@@ -15,7 +15,7 @@ use Rattle.modes.specs.Description.{LegalList}
 use Rattle.modes.proofs.KindLaws.{decode_legal}
 use Rattle.modes.proofs.RefusalNumbers.{above_0}
 use Rattle.modem.specs.Decode.{soft_refusal, DecodeSoft}
-use Rattle.modem.proofs.LentLaws.{enough_room, lent_passed, described_refused, lent_refused, all_done}
+use Rattle.modem.proofs.LentLaws.{value_tested, enough_room, lent_passed, described_refused, lent_refused, all_done}
 use Rattle.modem.proofs.PassedLaws.{Tallied, tallied, passed_legal, train_short, passed_decoded, heeded_tested}
 use Rattle.modem.proofs.decode.decode_soft.Goals.{After-counts-counts}
 use Rattle.modem.proofs.decode.decode_soft.Goals as goal
@@ -50,12 +50,13 @@ returns-in_err-lent_tested c =
     let p = err_from_is_err_and c.from_residual-in_err-lent_tested.result c.from_residual-in_err-lent_tested.ensures.1 in
     rw (p.1, p.2)
     (lent_refused _ _ _ _ _ _ _ (passed turn) _
-    (rw (← count.sent_is, ← count.n_is, ← c.room_short-short.ensures, ← c.soft_ok-in_range.ensures) c.in_err-lent_tested.ensures)
+    (rw (← count.sent_is, ← count.n_is, ← c.room_short-short.ensures, ← c.soft_ok-in_range.ensures)
+    (value_tested _ _ _ _ _ _ c.then_some-value.ensures c.in_err-lent_tested.ensures))
     (above_0 _))
 
 pub find-requires : goal.find-requires
 find-requires c =
-    let (wrong, short, outside) = lent_passed 8 _ _ _ (sym c.in_ok-lent_tested.ensures) in
+    let (wrong, short, outside) = lent_passed 8 _ _ _ (sym (value_tested _ _ _ _ _ _ c.then_some-value.ensures c.in_ok-lent_tested.ensures)) in
     let n = c.counts-counts.result.n in
     let room = enough_room (length c.args.octets.now) (length c.args.words.now) (octets_of n) (n + 6) (sym c.room_short-short.ensures ∙ short) in
     record {
@@ -71,5 +72,6 @@ returns c =
     let turn = (goal.at.returns c).After-counts-counts in
     let count = count turn in
     all_done _ _ _ _ _ _ _ (passed turn)
-    (rw (← count.sent_is, ← count.n_is, ← c.room_short-short.ensures, ← c.soft_ok-in_range.ensures) (sym c.in_ok-lent_tested.ensures))
+    (rw (← count.sent_is, ← count.n_is, ← c.room_short-short.ensures, ← c.soft_ok-in_range.ensures)
+    (sym (value_tested _ _ _ _ _ _ c.then_some-value.ensures c.in_ok-lent_tested.ensures)))
     _ (passed_decoded _ _ _ _ _ (holds turn) _ _ _ _ c.find.ensures)
