@@ -4,7 +4,6 @@ use mathlib.Core.Path.{◌≡◌, refl, sym, ◌∙◌, ap}
 use mathlib.Core.Bool.{Bool, true, false}
 use mathlib.Core.List.{List}
 use Prim.Native.Nat.{ℕ, ◌+◌, ◌-◌, ◌≤◌, ◌<◌}
-use native.Mathlib.Nat.{not-suc-le-zero}
 use native.Mathlib.Omega.{arith}
 use lib.Dec.{ltb}
 use lib.ListN.{length, get_or, set, length-set}
@@ -58,9 +57,6 @@ scattered_all base size table v f back l₀ l' room seat s =
         let low : base ≤ q = ltb-false q base t in
         let e : base + (q - base) ≡ q = omega arith in
         rw e at (placed (q - base) (omega arith))
-
-pub placed_none : (to v : ℕ → ℕ) (l : List ℕ) → Placed to v 0 l l
-placed_none to v l = record { long = refl; put = λ k h. absurd (not-suc-le-zero h); others = λ m h. refl }
 
 module _ (to v : ℕ → ℕ) (n : ℕ) (l l₁ : List ℕ) (p : Placed to v n l l₁) where
   -- one value more, at a place that is not taken

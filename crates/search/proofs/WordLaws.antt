@@ -6,7 +6,7 @@ use Rattle.laws.specs.Packing.{packed}
 use Rattle.laws.specs.Sums.{total}
 use Rattle.laws.proofs.PackingLaws.{packed_ext, packed_join}
 use Rattle.search.specs.Stored.{width, half, top}
-use Rattle.search.specs.Words.{four_bits, Chosen, two_bytes, four_bytes, eight_bytes, seat}
+use Rattle.search.specs.Words.{four_bits, Chosen, eight_bytes, seat}
 
 pub top_is : (g : ℕ) → g < width → g / half ≡ top g
 unfolding top
@@ -23,13 +23,6 @@ top_bit g = go (ltb g half)
     go : (z : Bool) → choose z 0 1 < 2
     go true = omega arith
     go false = omega arith
-
--- eight bytes of four bits each fill every second bit
-pub eight_most : (bytes : List ℕ) → ((j : ℕ) → j < 16 → get_or bytes j 0 ≤ 85) → (k : ℕ) → k ≤ 8 → eight_bytes bytes k ≤ 6148914691236517205
-eight_most bytes low k h =
-    let two : (i : ℕ) → i + 1 < 16 → two_bytes bytes i ≤ 21845 = λ i hi. omega (arith, low i (omega arith), low (i + 1) hi) in
-    let four : (i : ℕ) → i + 3 < 16 → four_bytes bytes i ≤ 1431655765 = λ i hi. omega (arith, two i (omega arith), two (i + 2) (omega arith)) in
-    omega (arith, four k (omega arith), four (k + 4) (omega arith))
 
 -- bits in parts of eight
 packed_parts : (n : ℕ) (f : ℕ → ℕ) → packed (8 * n) f ≡ total n (λ c. 2 ^ (8 * c) * packed 8 (λ q. f (8 * c + q)))
