@@ -50,7 +50,8 @@ fn put_pdu(pdu: Pdu, a: usize, first: usize, origins: &mut [u16])
     }
 }
 
-// A train, at the front of `origins`; how many sent bits it has. An ArrayVec grows at its end, and a symbol's origins are put in another order.
+// A train, at the front of `origins`; how many sent bits it has. An ArrayVec grows at its end, and a symbol's origins are put in another
+// order. The walk is like `modem`'s two: an iterator of PDUs with their beginnings would be a type with laws of its own, for these lines.
 pub(crate) fn put_origins(train: &Train, origins: &mut [u16; 6912]) -> usize
     requires { train.now.a + 72 ≤ length_of (pdus_in train.now) }
     ensures n { result ≡ sent_of (pdus_in train.now) }

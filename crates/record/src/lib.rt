@@ -17,7 +17,7 @@ use modem::{Answer, Description, Kind, PduList, Refusal};
 use modes::{Counts, Mode, Train};
 
 // What the line of a record says that is not refused: its symbols, the sent bits, the rounded cost and the mark. Of
-// a refused one all of it is zero, the default.
+// a refused one all of it is zero, the default. It is no `modem::Answer`: no later field of that is to reach a line.
 #[derive(Clone, Copy, Debug, Default, PartialEq, Eq)]
 pub struct Line {
     pub symbols: u32,
