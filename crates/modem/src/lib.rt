@@ -80,7 +80,7 @@ fn read_train(train: &Train, sent: &[u8], i: &mut [i16], q: &mut [i16])
 {
     let mut bits = 0;
     let mut carriers = 0;
-    for pdu in train.pdus.as_slice() {
+    for pdu in train.as_slice() {
         let more = 48 * pdu.symbols();
         points::readings(
             pdu.mode.constellation,

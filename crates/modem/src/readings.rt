@@ -21,7 +21,7 @@ fn soften_train(train: &Train, i: &[i16], q: &[i16], soft: &mut [i8])
 {
     let mut bits = 0;
     let mut carriers = 0;
-    for pdu in train.pdus.as_slice() {
+    for pdu in train.as_slice() {
         let more = 48 * pdu.symbols();
         soft::soften(
             pdu.mode.constellation,

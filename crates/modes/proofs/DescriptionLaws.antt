@@ -8,7 +8,7 @@ use native.Mathlib.Numerals.{add-one}
 use lib.ListN.{length, get_or, take}
 use lib.Seq.{take-suc}
 use Rattle.std.proofs.Common.{map}
-use Rattle.std.proofs.lemmas.List.{length-map, length-take-le, get_or-map, map-append}
+use Rattle.std.proofs.lemmas.List.{length-map, get_or-map, map-append}
 use Rattle.modes.specs.declared.Pdu as source
 use Rattle.modes.specs.declared.train.Train.{Train}
 use Rattle.modes.specs.Modes.{number, number_of}
@@ -22,11 +22,11 @@ use Rattle.modes.proofs.SizeLaws.{sent_of_within, symbols_of_within}
 
 -- PDU k of a train
 abbrev pub pdu_at : Train → ℕ → source.Pdu
-pdu_at t k = get_or t.pdus.items k no_pdu
+pdu_at t k = get_or (take t.count t.pdus) k no_pdu
 
 -- how many there are
 abbrev pub count_in : Train → ℕ
-count_in t = length t.pdus.items
+count_in t = length (take t.count t.pdus)
 
 -- a train's list is not refused
 pub fit_in : (t : Train) → FitList (pdus_in t)
@@ -36,12 +36,12 @@ fit_in t = list_fit _ t.fit
 module _ (t : Train) where
   pub pdus_in_length : length (pdus_in t) ≡ count_in t
   unfolding pdus_in
-  pdus_in_length = length-map t.pdus.items held
+  pdus_in_length = length-map (take t.count t.pdus) held
 
   module _ (k : ℕ) (h : k < count_in t) where
     pub pdus_in_at : (d : Pdu) → get_or (pdus_in t) k d ≡ held (pdu_at t k)
     unfolding pdus_in
-    pdus_in_at d = get_or-map held t.pdus.items k no_pdu d h
+    pdus_in_at d = get_or-map held (take t.count t.pdus) k no_pdu d h
 
     pub held_fit : Fit (number (pdu_at t k).mode) (pdu_at t k).n
     held_fit = rw (pdus_in_at (pdu_of 0 0)) at (fit_at (pdus_in t) (fit_in t).each k (pdu_of 0 0) (omega (arith, pdus_in_length)))
@@ -90,10 +90,6 @@ module _ (t : Train) (k n symbols sent : ℕ) (c : Counted t k n symbols sent) w
     c.symbols_is ∙ held_all t pdu_symbols k h,
     c.sent_is ∙ held_all t pdu_sent k h,
   )
-
--- so many PDUs have been made of a list
-pub made_count : (made : List source.Pdu) (ps : List Pdu) (k : ℕ) → k ≤ length ps → map held made ≡ take k ps → length made ≡ k
-made_count made ps k h so = sym (length-map made held) ∙ ap (λ (l : List Pdu). length l) so ∙ length-take-le k ps h
 
 -- a list that is not refused, of which the first k PDUs have been made
 module _ (count : ℕ) (modes lengths : List ℕ) (fit : FitList (pdus_of count modes lengths)) (k : ℕ) (h : k < count) where

@@ -4,7 +4,7 @@
 --   Describes  the struct holds that kind, list, counter and a
 --   ModeOf     the answer of a mode's number: its constellation and rate, or refusal 1
 -- Assumes nothing.
-use Rattle.std.specs.Prelude.{ℕ, ◌≡◌, List, [], ◌∷◌, map, Result, IfOk}
+use Rattle.std.specs.Prelude.{ℕ, ◌≡◌, List, [], ◌∷◌, map, take, Result, IfOk}
 use Rattle.laws.specs.Ladder.{◌when◌, ladder}
 use Rattle.modes.specs.declared.Kind.{Kind}
 use Rattle.modes.specs.declared.Mode.{Mode}
@@ -23,7 +23,7 @@ told list = pdus_of list.count list.modes list.lengths
 
 -- the list that the struct holds
 unfoldable pub pdus_in : Train → List Pdu
-pdus_in t = map held t.pdus.items
+pdus_in t = map held (take t.count t.pdus)
 
 -- the struct holds that kind, list, counter and a
 pub record Describes (kind : Kind) (ps : List Pdu) (counter a : ℕ) (t : Train) : Type 0 where

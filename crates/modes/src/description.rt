@@ -1,11 +1,10 @@
 // What a call is told of its train besides its octets. Nothing of it has been tested.
-ghost use Rattle.std.specs.Prelude.{◌≡◌, map};
+ghost use Rattle.std.specs.Prelude.{◌≡◌, map, take};
 ghost use Rattle.modes.specs.Kinds.{heeded};
 ghost use Rattle.modes.specs.Pdus.{pdus_of};
 ghost use Rattle.modes.specs.Description.{FitList, held, Holds};
 
 use crate::{Kind, Pdu, mode_of};
-use arrayvec::ArrayVec;
 
 // The PDUs: how many, and the mode and the length of each. What stands past the count is not read. How many stands beside the
 // arrays, which C lends so, for a count above 16 has a refusal of its own.
@@ -34,14 +33,14 @@ fn pdu_of(mode: u32, n: u32) -> Pdu
 }
 
 impl PduList {
-    // The PDUs of a list that passes.
-    pub(crate) fn pdus(&self) -> ArrayVec<Pdu, 16>
+    // The PDUs of a list that passes, as many as its count says.
+    pub(crate) fn pdus(&self) -> [Pdu; 16]
         requires { FitList (pdus_of self.now.count self.now.modes self.now.lengths) }
-        ensures { map held result.items ≡ pdus_of self.now.count self.now.modes self.now.lengths }
+        ensures { map held (take self.now.count result) ≡ pdus_of self.now.count self.now.modes self.now.lengths }
     {
-        let mut pdus = ArrayVec::new();
+        let mut pdus = [Pdu::default(); 16];
         for k in 0..self.count as usize {
-            pdus.push(pdu_of(self.modes[k], self.lengths[k]));
+            pdus[k] = pdu_of(self.modes[k], self.lengths[k]);
         }
         pdus
     }

@@ -1,21 +1,23 @@
 // What has to be known of a train besides its octets: its PDUs one after the other, each with its mode and length, of a list that is not
 // refused; and what is counted over all of them.
-ghost use Rattle.std.specs.Prelude.{◌≡◌, map};
+ghost use Rattle.std.specs.Prelude.{◌≡◌, ◌≤◌, map, take};
 ghost use Rattle.laws.specs.Ladder.{ladder};
 ghost use Rattle.modes.specs.Refusals.{list_sized};
 ghost use Rattle.modes.specs.Description.{held};
 
 use crate::refusals::tested;
 use crate::{Description, Kind, Pdu, PduList, Refusal};
-use arrayvec::ArrayVec;
 
-#[derive(Drop)]
+// Only the first `count` PDUs are meant. An ArrayVec would say so by its type, but it is not Copy, and a train is.
+#[derive(Clone, Copy)]
 pub struct Train {
     pub kind: Kind,
-    pub pdus: ArrayVec<Pdu, 16>,
+    pub pdus: [Pdu; 16],
+    pub count: usize,
     pub counter: u32,
     pub a: usize,
-    pub ghost fit: { ladder (list_sized (map held pdus.items)) ≡ 0 },
+    pub ghost few: { count ≤ 16 },
+    pub ghost fit: { ladder (list_sized (map held (take count pdus))) ≡ 0 },
 }
 
 // A train's information bits, symbols and sent bits, over all its PDUs.
@@ -42,6 +44,7 @@ impl Train {
         Train {
             kind: by.kind,
             pdus: by.list.pdus(),
+            count: by.list.count as usize,
             counter: by.counter,
             a: by.a as usize,
         }
@@ -69,6 +72,13 @@ impl Train {
         })
     }
 
+    // Its PDUs, and nothing past their count.
+    pub fn as_slice(&self) -> &[Pdu]
+        ensures value { result.now ≡ take self.now.count self.now.pdus }
+    {
+        &self.pdus[..self.count]
+    }
+
     pub fn counts(&self) -> Counts
         ensures n { result.n ≡ length_of (pdus_in self.now) }
         ensures symbols { result.symbols ≡ symbols_of (pdus_in self.now) }
@@ -79,7 +89,7 @@ impl Train {
             symbols: 0,
             sent: 0,
         };
-        for pdu in self.pdus.as_slice() {
+        for pdu in self.as_slice() {
             counts.n += pdu.n;
             counts.symbols += pdu.symbols();
             counts.sent += pdu.sent_bits();

@@ -7,4 +7,5 @@ pub mod SheetLaws
 pub mod SendLaws
 pub mod SourceLaws
 pub mod CountedLaws
+pub mod SpreadLaws
 pub mod ListedLaws

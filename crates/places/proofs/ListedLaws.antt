@@ -1,13 +1,17 @@
--- A train PDU by PDU: what each PDU is lent, and what stands in the buffer after k of them.
+-- A train PDU by PDU: what each PDU is lent, and what stands in the buffers after k of them.
 -- Assumes nothing.
 use mathlib.Core.Path.{◌≡◌, refl, sym, ◌∙◌, ap}
 use mathlib.Core.List.{List, ◌∷◌, ◌++◌}
 use Prim.Native.Nat.{ℕ, suc, ◌+◌, ◌-◌, ◌*◌, ◌≤◌, ◌<◌}
 use native.Mathlib.Omega.{arith}
+use lib.IntN.{ℤ, pos}
 use lib.ListN.{length, get_or, take, drop}
-use lib.Seq.{split_at}
+use lib.Seq.{split_at, get_or-drop}
 use Rattle.laws.specs.Lists.{filled}
-use Rattle.laws.proofs.ListLaws.{filled_length, filled_part}
+use Rattle.laws.specs.Scatter.{Placed}
+use Rattle.laws.specs.Signed.{counted}
+use Rattle.laws.proofs.ListLaws.{part_all, filled_length, filled_part}
+use Rattle.laws.proofs.ScatterLaws.{placed_on}
 use Rattle.modes.specs.declared.Constellation.{Constellation}
 use Rattle.modes.specs.declared.Rate.{Rate}
 use Rattle.modes.specs.declared.train.Train.{Train}
@@ -23,9 +27,8 @@ use Rattle.modes.proofs.DescriptionLaws.{pdu_at, count_in, pdus_in_length, pdus_
 use Rattle.places.specs.Selection.{origin}
 use Rattle.places.specs.Puncture.{p1}
 use Rattle.places.specs.Trains.{pdu, pdus, listed}
-use Rattle.places.specs.Sending.{symbol_bits, origin_of, PduRoom}
+use Rattle.places.specs.Sending.{symbol_bits, origin_of, pdu_bit, PduRoom, Spread, train_bit, TrainRoom}
 use Rattle.places.proofs.TrainLaws.{takes_listed, origin_share}
-use Rattle.places.proofs.SelectionLaws.{Takes, origin_place}
 use Rattle.places.proofs.SourceLaws.{origin_once, pdu_sources, pdu_enums}
 
 -- the sent bits, and the information bits, of a PDU by its two enums
@@ -89,17 +92,16 @@ module _ (t : Train) (k first at : ℕ) (b : Begins t k first at) where
     share_inside : first + 2 * N ≤ 2 * length_of ps
     share_inside = omega (arith, b.first_is, held_sum t k h (λ p. p.length), sum_most (λ p. p.length) ps (k + 1))
 
-    pub pdu_room : (room : ℕ) → t.a + 72 ≤ length_of (pdus_in t) → room + at ≡ 6912
-        → PduRoom (bits_of (pdu_at t k).mode.constellation) (pdu_at t k).mode.rate (symbols (number (pdu_at t k).mode) (pdu_at t k).n) t.a first room
-    pdu_room room place er =
+    pub pdu_room : (coded sent lent : ℕ) → TrainRoom (pdus_in t) t.a coded sent → lent + at ≡ sent
+        → PduRoom (bits_of (pdu_at t k).mode.constellation) (pdu_at t k).mode.rate (symbols (number (pdu_at t k).mode) (pdu_at t k).n) t.a first coded lent
+    pdu_room coded sent lent room el =
         let all = sent_by_enums c rate N pdu_fit in
         let whole = info_by_enums c rate N pdu_fit in
-        let most = sent_of_within ps fit.each in
         record {
-          place = omega (arith, place, fit.to_3456);
-          few = omega (arith, all, sent_inside, most, fit.to_3456);
-          room = omega (arith, all, sent_inside, most, fit.to_3456);
-          sources = pdu_sources c rate t.a first (symbols (number_of c rate) N) (length_of ps) 6924 (omega (arith, whole, share_inside)) fit.to_3456 place (omega (arith, fit.to_3456));
+          place = omega (arith, room.inside, fit.to_3456);
+          few = omega (arith, all, sent_inside, sent_of_within ps fit.each, fit.to_3456);
+          room = omega (arith, all, sent_inside, room.room);
+          sources = pdu_sources c rate t.a first (symbols (number_of c rate) N) (length_of ps) coded (omega (arith, whole, share_inside)) fit.to_3456 room.inside room.all_coded;
         }
 
     -- its sent bit q is the train's sent bit at + q
@@ -117,43 +119,46 @@ module _ (t : Train) (k first at : ℕ) (b : Begins t k first at) where
         ap (origin (p1 t.a))
         (rw (pdu_enums c rate pdu_fit.from_1 pdu_fit.to_7, b.first_is, b.at_is) (sym share))
 
-    -- the PDU's origins at the front of what is left of the buffer
-    pub put_on : (l₀ l part : List ℕ) (n : ℕ) → length l₀ ≡ 6912
-        → l ≡ filled at (origin (listed (pdus_in t) t.a)) l₀
+    -- the PDU's sent bits at the front of what is left of the buffer
+    pub sent_on : (coded l₀ l part : List ℕ) (n : ℕ) → sent_of (pdus_in t) ≤ length l₀
+        → l ≡ filled at (train_bit (pdus_in t) t.a coded) l₀
         → n ≡ sent_bits (number (pdu_at t k).mode) (pdu_at t k).n
         → part
         ≡ filled (symbol_bits (bits_of (pdu_at t k).mode.constellation) (symbols (number (pdu_at t k).mode) (pdu_at t k).n))
-        (origin_of (bits_of (pdu_at t k).mode.constellation) (pdu_at t k).mode.rate t.a first)
-        (take (6912 - at) (drop at l))
-        → take at l ++ (part ++ drop (6912 - at) (drop at l)) ≡ filled (at + n) (origin (listed (pdus_in t) t.a)) l₀
-    put_on l₀ l part n long is en written =
+        (pdu_bit (bits_of (pdu_at t k).mode.constellation) (pdu_at t k).mode.rate t.a first coded)
+        (take (length l - at) (drop at l))
+        → take at l ++ (part ++ drop (length l - at) (drop at l)) ≡ filled (at + n) (train_bit (pdus_in t) t.a coded) l₀
+    unfolding pdu_bit train_bit
+    sent_on coded l₀ l part n room is en written =
         let count = sent_by_enums c rate N pdu_fit ∙ sym en in
-        let small = begins_small in
-        let most = sent_of_within ps fit.each in
-        let lent : length l ≡ length l₀ = ap length is ∙ filled_length at _ l₀ (omega (arith, small.1)) in
-        ap (λ (x : List ℕ). take at l ++ (x ++ drop (6912 - at) (drop at l)))
-        (written ∙ ap (λ (m : ℕ). filled m (origin_of (bits_of c) rate t.a first) (take (6912 - at) (drop at l))) count)
-        ∙ filled_part at n (6912 - at) (origin (listed ps t.a)) (origin_of (bits_of c) rate t.a first) l₀ l is
-        (omega (arith, lent, en, sent_inside, most, fit.to_3456)) (omega (arith, en, sent_inside, most, fit.to_3456))
-        (λ j h. share_origin j (rw en at h))
+        let lent : length l ≡ length l₀ = ap length is ∙ filled_length at _ l₀ (omega (arith, begins_small.2)) in
+        ap (λ (x : List ℕ). take at l ++ (x ++ drop (length l - at) (drop at l)))
+        (written ∙ ap (λ (m : ℕ). filled m (pdu_bit (bits_of c) rate t.a first coded) (take (length l - at) (drop at l))) count)
+        ∙ filled_part at n (length l - at) (train_bit ps t.a coded) (pdu_bit (bits_of c) rate t.a first coded) l₀ l is
+        (omega (arith, lent, en, sent_inside)) (omega (arith, en, sent_inside))
+        (λ j h. ap (λ (m : ℕ). get_or coded m 0) (share_origin j (rw en at h)))
+
+    -- the PDU's soft bytes, from the front of what is left of them
+    pub spread_on : t.a + 72 ≤ length_of (pdus_in t) → (soft : List ℤ) (l₀ l l' : List ℕ) (n : ℕ)
+        → Placed (origin (listed (pdus_in t) t.a)) (λ q. counted 128 (get_or soft q (pos 0))) at l₀ l
+        → n ≡ sent_bits (number (pdu_at t k).mode) (pdu_at t k).n
+        → Spread (bits_of (pdu_at t k).mode.constellation) (pdu_at t k).mode.rate t.a first
+        (symbol_bits (bits_of (pdu_at t k).mode.constellation) (symbols (number (pdu_at t k).mode) (pdu_at t k).n))
+        (take (length soft - at) (drop at soft)) l l'
+        → Placed (origin (listed (pdus_in t) t.a)) (λ q. counted 128 (get_or soft q (pos 0))) (at + n) l₀ l'
+    unfolding Spread
+    spread_on inside soft l₀ l l' n before en spread =
+        let count = sent_by_enums c rate N pdu_fit ∙ sym en in
+        let takes = takes_listed ps t.a fit.each inside in
+        placed_on _ _ at l₀ l before _ _ n l' (rw count at spread)
+        (λ j h. (
+          share_origin j (rw en at h),
+          ap (λ (x : List ℤ). counted 128 (get_or x j (pos 0))) (part_all at soft) ∙ ap (counted 128) (get_or-drop at soft j (pos 0)),
+        ))
+        (λ i j less h same.
+        let once : i ≡ j = origin_once (listed ps t.a) _ _ takes i j (omega (arith, en, sent_inside)) (omega (arith, en, sent_inside)) same in
+        omega arith)
 
 -- past the last PDU all sent bits have been passed
 pub begins_all : (t : Train) (k first at : ℕ) → Begins t k first at → count_in t ≤ k → at ≡ sent_of (pdus_in t)
 begins_all t k first at b h = b.at_is ∙ held_all t pdu_sent k h
-
--- a train's sent bits are not too many
-pub train_few : (t : Train) → sent_of (pdus_in t) ≤ 6912
-train_few t = omega (arith, sent_of_within (pdus_in t) (fit_in t).each, (fit_in t).to_3456)
-
--- and their origins, with P1 inside the list
-module _ (t : Train) (inside : t.a + 72 ≤ length_of (pdus_in t)) where
-  takes : Takes (listed (pdus_in t) t.a) (2 * (length_of (pdus_in t) + 6)) (sent_of (pdus_in t))
-  takes = takes_listed (pdus_in t) t.a (fit_in t).each inside
-
-  -- are coded bits
-  pub train_coded : (q : ℕ) → q < sent_of (pdus_in t) → origin (listed (pdus_in t) t.a) q < 2 * (length_of (pdus_in t) + 6)
-  train_coded q h = let (coded, _) = origin_place (listed (pdus_in t) t.a) takes q h in coded
-
-  -- no two of which are the same
-  pub train_apart : (p q : ℕ) → p < q → q < sent_of (pdus_in t) → origin (listed (pdus_in t) t.a) p ≡ origin (listed (pdus_in t) t.a) q → ⊥
-  train_apart p q less h same = let once : p ≡ q = origin_once (listed (pdus_in t) t.a) _ _ takes p q (omega arith) h same in omega arith

@@ -1,4 +1,4 @@
--- One turn of a PDU: the origins of a symbol's bits at their places are those of the sent bits of one more symbol.
+-- One turn of sending a PDU: a symbol's bits at their places make the sent bits of one more symbol.
 -- Assumes nothing.
 use mathlib.Core.Path.{◌≡◌, refl, sym, ◌∙◌, ap, subst}
 use mathlib.Core.List.{List}
@@ -22,7 +22,7 @@ use Rattle.places.specs.Selection.{origin}
 use Rattle.places.specs.Puncture.{p1, p2}
 use Rattle.places.specs.Interleaver.{place_in_symbol, no_places, places_of, seated, interleaver}
 use Rattle.places.specs.Trains.{pdu_by}
-use Rattle.places.specs.Sending.{source_of, origin_of}
+use Rattle.places.specs.Sending.{source_of, Sources, symbol_bits, origin_of, pdu_bit}
 use Rattle.places.proofs.SymbolLaws.{seated_length, symbol_place_within, symbol_place_back, symbol_back_within, symbol_back_place}
 
 -- a symbol of S bits: places and bits take each other back
@@ -113,33 +113,43 @@ interleaver_origin S b s j h = rw (seated_length S b S, digits_div s h, digits_m
 pub symbol_inside : (S s symbols : ℕ) → s < symbols → s * S + S ≤ symbols * S
 symbol_inside S s symbols h = le_trans (omega (arith, suc-mul s S)) (mul-le-mul_right S h)
 
--- the origins of s symbols are put
-pub record Put (b : ℕ) (rate : Rate) (a first : ℕ) (l₀ l : List ℕ) (s : ℕ) : Type 0 where
-  pub long : length l ≡ length l₀
-  pub origins : l ≡ filled (s * (48 * b)) (origin_of b rate a first) l₀
+-- sources of more bits are sources of fewer
+pub sources_fewer : (rate : Rate) (a first n m coded : ℕ) → m ≤ n → Sources rate a first n coded → Sources rate a first m coded
+sources_fewer rate a first n m coded less s =
+    record {
+      punctured = λ q h. s.punctured q (omega arith);
+      present = λ q h. s.present q (omega arith);
+      apart = λ p q more h. s.apart p q more (omega arith);
+    }
 
-pub put_none : (b : ℕ) (rate : Rate) (a first : ℕ) (l : List ℕ) → Put b rate a first l l 0
-put_none b rate a first l =
-    record { long = refl; origins = rw (zero-mul (48 * b)) (sym (filled_none (origin_of b rate a first) l)) }
+-- s symbols are sent
+pub record Sent (b : ℕ) (rate : Rate) (a first : ℕ) (coded l₀ l : List ℕ) (s : ℕ) : Type 0 where
+  pub long : length l ≡ length l₀
+  pub bits : l ≡ filled (symbol_bits b s) (pdu_bit b rate a first coded) l₀
+
+pub sent_none : (b : ℕ) (rate : Rate) (a first : ℕ) (coded l : List ℕ) → Sent b rate a first coded l l 0
+sent_none b rate a first coded l =
+    record { long = refl; bits = rw (zero-mul (48 * b)) (sym (filled_none (pdu_bit b rate a first coded) l)) }
 
 -- a turn: one symbol more
-pub put_again : (c : Constellation) (b : ℕ) → b ≡ bits_of c → (rate : Rate) (a first : ℕ) (l₀ l l' : List ℕ) (s : ℕ) → s * (48 * b) + 48 * b ≤ length l₀
-    → Put b rate a first l₀ l s
-    → Scattered (s * (48 * b)) (48 * b) (front (48 * b) b) (λ k. source_of rate a first (s * (48 * b) + k)) (48 * b) l l'
-    → Put b rate a first l₀ l' (s + 1)
-unfolding source_of origin_of pdu_by origin
-put_again c b e rate a first l₀ l l' s room before h =
+pub sent_again : (c : Constellation) (b : ℕ) → b ≡ bits_of c → (rate : Rate) (a first : ℕ) (coded l₀ l l' : List ℕ) (s : ℕ)
+    → s * (48 * b) + 48 * b ≤ length l₀
+    → Sent b rate a first coded l₀ l s
+    → Scattered (s * (48 * b)) (48 * b) (front (48 * b) b) (λ k. get_or coded (source_of rate a first (s * (48 * b) + k)) 0) (48 * b) l l'
+    → Sent b rate a first coded l₀ l' (s + 1)
+unfolding source_of pdu_bit origin_of pdu_by origin
+sent_again c b e rate a first coded l₀ l l' s room before h =
     let S = 48 * b in
     let seat = seated_by c b e in
     let next : s * S + S ≡ (s + 1) * S = rw (add-one s) (sym (suc-mul s S)) in
     record {
       long = h.long ∙ before.long;
-      origins = rw (← next)
+      bits = rw (← next)
           (scattered_all (s * S) S (front S b) _ _ (λ j. get_or (seated S b S) j 0) l₀ l' room
           (λ j inside. (
             seat.back_within j inside,
             front_at S b _ (seat.back_within j inside) ∙ seat.forth j inside,
-            ap (λ (q : ℕ). origin (p1 a) (first + origin (p2 rate) q)) (interleaver_origin S b s j inside),
+            ap (λ (q : ℕ). get_or coded (origin (p1 a) (first + origin (p2 rate) q)) 0) (interleaver_origin S b s j inside),
           ))
-          (rw before.origins at h));
+          (rw before.bits at h));
     }

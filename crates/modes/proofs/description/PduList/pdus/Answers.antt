@@ -1,14 +1,18 @@
 -- `modes::description::PduList::pdus` makes the PDUs of a fit list.
 -- Assumes nothing.
-use mathlib.Core.Path.{◌≡◌, ◌∙◌}
+use mathlib.Core.Path.{◌≡◌, ◌∙◌, ap}
+use mathlib.Core.List.{List}
 use Prim.Native.Nat.{◌≤◌, ◌<◌}
 use native.Mathlib.Omega.{arith}
-use lib.Dec.{lit<}
-use lib.ListN.{length}
+use lib.ListN.{length, length-set}
 use lib.Seq.{take_all}
+use Rattle.std.proofs.Common.{map}
+use Rattle.std.proofs.lemmas.List.{take_more_set}
+use Rattle.modes.specs.declared.Pdu.{Pdu}
+use Rattle.modes.specs.Description.{held}
 use Rattle.modes.specs.Passed.{told}
 use Rattle.modes.proofs.PduLaws.{pdus_of_length}
-use Rattle.modes.proofs.DescriptionLaws.{made_again, made_count}
+use Rattle.modes.proofs.DescriptionLaws.{made_again}
 use Rattle.modes.proofs.description.PduList.pdus.Goals as goal
 use Rattle.modes.proofs.description.PduList.pdus.Goals.{In-loop-k}
 
@@ -24,16 +28,19 @@ bounds-self-k c = omega (arith, few (goal.at.bounds-self-k c).In-loop-k)
 pub bounds-self-k-in-loop-k : goal.bounds-self-k-in-loop-k
 bounds-self-k-in-loop-k c = omega (arith, few (goal.at.bounds-self-k-in-loop-k c).In-loop-k)
 
-pub push-requires : goal.push-requires
-push-requires c =
-    let in_loop = (goal.at.push-requires c).In-loop-k in
-    let room : length c.loop-k.pdus.items < 16 =
-    omega (arith, few in_loop, made_count _ _ _ (omega (arith, long in_loop)) c.loop-k.invariant)
-    in
-    (lit< tt, room)
+pub bounds-pdus-k : goal.bounds-pdus-k
+bounds-pdus-k c = omega (arith, few (goal.at.bounds-pdus-k c).In-loop-k, c.loop-k.invariant.1)
 
 pub loop-k-preserved : goal.loop-k-preserved
-loop-k-preserved c = rw c.push.ensures.items (made_again _ _ _ c.requires _ (omega arith) _ _ c.pdu_of.ensures c.loop-k.invariant)
+loop-k-preserved c =
+    let room : c.loop-k.k < length c.loop-k.pdus = omega (arith, few (goal.at.loop-k-preserved c).In-loop-k, c.loop-k.invariant.1) in (
+      ap (λ (made : List Pdu). map held made) (take_more_set _ _ _ room)
+          ∙ made_again _ _ _ c.requires _ (omega arith) _ _ c.pdu_of.ensures c.loop-k.invariant.0,
+      length-set _ _ _ ∙ c.loop-k.invariant.1,
+    )
 
 pub returns : goal.returns
-returns c = c.loop-k.invariant ∙ take_all _ _ (omega (arith, pdus_of_length c.args.self.now.count c.args.self.now.modes c.args.self.now.lengths))
+returns c =
+    let done : c.loop-k.k ≡ c.args.self.now.count = omega arith in
+    rw done at c.loop-k.invariant.0
+    ∙ take_all _ _ (omega (arith, pdus_of_length c.args.self.now.count c.args.self.now.modes c.args.self.now.lengths))
