@@ -37,15 +37,20 @@ pub struct JuzamboreAnswer {
     pub comparisons: u32,
 }
 
-// The PDUs by a count and two arrays of sixteen, as C lends them.
+// The PDUs by a count and two arrays of sixteen, as C lends them. The arrays are not copied whole: no number past the count is read.
 fn listed(count: u32, modes: &[u32; 16], lengths: &[u32; 16]) -> PduList
     ensures { told result ≡ pdus_of count modes.now lengths.now }
 {
-    PduList {
+    let mut list = PduList {
         count,
-        modes: *modes,
-        lengths: *lengths,
+        modes: [0; 16],
+        lengths: [0; 16],
+    };
+    for k in 0..count.min(16) as usize {
+        list.modes[k] = modes[k];
+        list.lengths[k] = lengths[k];
     }
+    list
 }
 
 fn described(
