@@ -8,13 +8,14 @@ mod scrambler;
 
 ghost use Rattle.std.specs.Prelude.{◌≡◌, ◌+◌, ◌*◌, ◌/◌, ◌%◌, ◌<◌, ◌≤◌, ltb, length, set};
 ghost use Rattle.laws.specs.Lists.{choose, filled};
-ghost use Rattle.coder.specs.Scrambler.{bit_of};
+ghost use Rattle.coder.specs.Scrambler.{bit_of, output};
 ghost use Rattle.coder.specs.Train.{coded_bit, CodesOn};
 ghost use Rattle.coder.specs.Register.{parity, mask_x, mask_y};
 
 pub use octets::{descramble, octets_counter, train_counter};
 pub use register::{Register, parity_of};
 pub use scrambler::Scrambler;
+use scrambler::output_of;
 
 // The polynomials as masks of the register.
 pub const X_TAPS: u32 = 0o133;
@@ -38,13 +39,14 @@ fn put_pair(coded: &mut [u8], t: usize, register: Register)
     coded[2 * t + 1] = parity_of(register.bits, Y_TAPS);
 }
 
-// Input t of the encoder: a bit xored with the mask's lowest bit, and behind the train the tail's zeros.
-pub fn input_bit(octets: &[u8], n: usize, t: usize, mask: u32) -> u32
+// Input t of the encoder: a bit with the output of the scrambler's state s, and behind the train the tail's zeros.
+pub fn input_bit(octets: &[u8], n: usize, t: usize, s: u32) -> u32
     requires { t < n → t / 8 < length octets.now }
-    ensures { (result ≡ choose (ltb t n) ((bit_of octets.now t + mask) % 2) 0) × (result < 2) }
+    ensures { (result ≡ choose (ltb t n) ((bit_of octets.now t + output s) % 2) 0) × (result < 2) }
 {
+    let mask = output_of(s);
     if t < n {
-        (bit_of(octets, t) + mask % 2) % 2
+        (bit_of(octets, t) + mask) % 2
     } else {
         0
     }
@@ -65,7 +67,8 @@ fn code_on(
     ensures { CodesOn n octets.now from end scrambler.state register.old.bits register.new.bits coded.old coded.new }
 {
     for t in from..end {
-        let bit = input_bit(octets, n, t, scrambler.step());
+        let bit = input_bit(octets, n, t, scrambler.state);
+        scrambler.step();
         register.enter(bit);
         put_pair(coded, t, *register);
     }

@@ -2,6 +2,13 @@
 ghost use Rattle.std.specs.Prelude.{◌≡◌, ◌<◌, ◌≤◌};
 ghost use Rattle.coder.specs.Scrambler.{start, output, shifted};
 
+// Stage 7 xor stage 4.
+pub(crate) fn output_of(state: u32) -> u32
+    ensures { (result ≡ output state) × (result < 2) }
+{
+    (state / 64 + state / 8) % 2
+}
+
 #[derive(Clone, Copy)]
 pub struct Scrambler {
     pub state: u32,
@@ -26,11 +33,10 @@ impl Scrambler {
         }
     }
 
-    // Stage 7 xor stage 4.
     pub fn output(&self) -> u32
         ensures { (result ≡ output self.now.state) × (result < 2) }
     {
-        (self.state / 64 + self.state / 8) % 2
+        output_of(self.state)
     }
 
     // The output; the state shifts from stage 1 towards 7, and the output is fed back.

@@ -1,5 +1,5 @@
 // The commands of the near end: sending, and what is sent as points.
-use crate::shown::{MARK, MARK_READING, MOST, Sent, Spaced, pattern};
+use crate::shown::{MARK, MARK_READING, MOST, Spaced, pattern, print_bits};
 use crate::words::Words;
 use modes::Refusal;
 use std::io;
@@ -10,7 +10,14 @@ pub(crate) fn encode(rt: &impl Print, words: &mut Words) -> Option<io::Result<()
     let mut sent = [MARK; MOST];
     let sent = sent.get_mut(..words.room()?)?;
     let refusal = Refusal::answer(&modem::encode(&train, &octets, sent));
-    Some(println!(rt; "{refusal}{}", Sent(sent)))
+    Some(print_sent(rt, refusal, sent))
+}
+
+// The refusal, and the sent bits, a blank before them where there are any.
+fn print_sent(rt: &impl Print, refusal: u32, sent: &mut [u8]) -> io::Result<()> {
+    let gap = if sent.is_empty() { "" } else { " " };
+    print!(rt; "{refusal}{gap}")?;
+    print_bits(rt, sent)
 }
 
 pub(crate) fn ideal(rt: &impl Print, words: &mut Words) -> Option<io::Result<()>> {

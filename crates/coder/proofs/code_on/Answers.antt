@@ -8,5 +8,4 @@ loop-t-init c = coding_start _ _ _ _ _ _
 
 pub loop-t-preserved : goal.loop-t-preserved
 loop-t-preserved c =
-    let is_bit = rw c.step.ensures.output.0 at c.input_bit-bit.ensures.0 in
-    coding_again _ _ _ _ _ _ _ _ _ _ _ _ _ _ c.loop-t.invariant is_bit c.step.ensures.state c.enter.ensures c.put_pair.ensures
+    coding_again _ _ _ _ _ _ _ _ _ _ _ _ _ _ c.loop-t.invariant c.input_bit-bit.ensures.0 c.step.ensures.state c.enter.ensures c.put_pair.ensures
