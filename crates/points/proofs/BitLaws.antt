@@ -17,23 +17,23 @@ use Rattle.std.specs.Prelude.{◌↔◌, IsTrue, EachIndex, slice_index}
 use Rattle.laws.specs.Packing.{written}
 use Rattle.points.specs.Levels.{value_of, all_bits}
 
-value_bound : (l : List ℕ) → ((i : ℕ) → get_or l i 0 < 256) → (k : ℕ) → value_of l 0 k + 255 ≤ 255 * 2 ^ k
+value_bound : (l : List ℕ) → ((i : ℕ) → get_or l i 0 < 256) → (from k : ℕ) → value_of l from k + 255 ≤ 255 * 2 ^ k
 unfolding written
-value_bound l byte zero = omega arith
-value_bound l byte (suc k) = rw (pow-suc 2 k) (omega (arith, value_bound l byte k, byte (0 + k)))
+value_bound l byte from zero = omega arith
+value_bound l byte from (suc k) = rw (pow-suc 2 k) (omega (arith, value_bound l byte from k, byte (from + k)))
 
 -- one bit more, and six bytes at most make a small value
-pub value_next : (l : List ℕ) (k : ℕ) → 2 * value_of l 0 k + get_or l k 0 ≡ value_of l 0 (k + 1)
+pub value_next : (l : List ℕ) (from k : ℕ) → 2 * value_of l from k + get_or l (from + k) 0 ≡ value_of l from (k + 1)
 unfolding written
-value_next l k = rw (add-one k, zero-add k)
+value_next l from k = rw (add-one k)
 
-pub value_small : (l : List ℕ) → ((i : ℕ) → get_or l i 0 < 256) → (k : ℕ)
+pub value_small : (l : List ℕ) → ((i : ℕ) → get_or l i 0 < 256) → (from k : ℕ)
     → k < 6
-    → 2 * value_of l 0 k + get_or l k 0 < 2 ^ 14
-value_small l byte k h =
+    → 2 * value_of l from k + get_or l (from + k) 0 < 2 ^ 14
+unfolding written
+value_small l byte from k h =
     let p : 2 ^ suc k ≤ 2 ^ 6 = pow_mono h in
-    let below : value_of l 0 (k + 1) + 255 ≤ 255 * 2 ^ suc k = rw (add-one k) (value_bound l byte (suc k)) in
-    omega (arith, value_next l k)
+    omega (arith, value_bound l byte from (suc k))
 
 -- the bits of a part are those of the whole from its beginning on
 part_value : (l : List ℕ) (from n b : ℕ) → b ≤ n → value_of (take n (drop from l)) 0 b ≡ value_of l from b
