@@ -1,13 +1,16 @@
 // The commands of the far end: soft bytes, and decoding.
 use crate::shown::{Decoded, MARK, MARK_SOFT, MARK_WORD, MOST, Spaced};
 use crate::words::Words;
+use arrayvec::ArrayVec;
 use modem::{Answer, Refusal};
 use std::io;
 
 pub(crate) fn soften(rt: &impl Print, words: &mut Words) -> Option<io::Result<()>> {
     let list = words.list_of_pdus()?;
-    let i = words.readings()?;
-    let q = words.readings()?;
+    let mut i = ArrayVec::new();
+    words.readings(&mut i)?;
+    let mut q = ArrayVec::new();
+    words.readings(&mut q)?;
     let mut soft = [MARK_SOFT; MOST];
     let soft = soft.get_mut(..words.room()?)?;
     let refusal = Refusal::answer(&modem::soften(&list, &i, &q, soft));
@@ -36,7 +39,8 @@ fn decode<F: FnOnce(&mut [u8], &mut [u64]) -> Result<Answer, Refusal>>(
 
 pub(crate) fn decode_soft(rt: &impl Print, words: &mut Words) -> Option<io::Result<()>> {
     let train = words.description()?;
-    let soft = words.soft_bytes()?;
+    let mut soft = ArrayVec::new();
+    words.soft_bytes(&mut soft)?;
     decode(rt, words, |octets, working| {
         modem::decode_soft(&train, &soft, octets, working)
     })
@@ -44,8 +48,10 @@ pub(crate) fn decode_soft(rt: &impl Print, words: &mut Words) -> Option<io::Resu
 
 pub(crate) fn decode_readings(rt: &impl Print, words: &mut Words) -> Option<io::Result<()>> {
     let train = words.description()?;
-    let i = words.readings()?;
-    let q = words.readings()?;
+    let mut i = ArrayVec::new();
+    words.readings(&mut i)?;
+    let mut q = ArrayVec::new();
+    words.readings(&mut q)?;
     decode(rt, words, |octets, working| {
         modem::decode_readings(&train, &i, &q, octets, working)
     })

@@ -31,36 +31,37 @@ fn reading(digits: &[u8]) -> Option<i16> {
 }
 
 impl Words<'_> {
-    // What a word lists, `width` digits for each; a dash stands for none. More than N are not taken.
+    // Puts what a word lists at the end of a list, which is lent since it is long: `width` digits for each; a dash stands for none. More than N
+    // are not taken.
     fn list<T: Default + Drop, F: Fn(&[u8]) -> Option<T>, const N: usize>(
         &mut self,
         width: usize,
         written_by: F,
-    ) -> Option<ArrayVec<T, N>>
+        list: &mut ArrayVec<T, N>,
+    ) -> Option<()>
         requires some { 0 < width }
         requires callable { F.IsAlwaysCallable written_by }
     {
         let word = self.word()?;
-        let mut list = ArrayVec::new();
         if word == "-" {
-            return Some(list);
+            return Some(());
         }
         for digits in word.as_bytes().chunks(width) {
             list.try_push(written_by(digits)?).ok()?;
         }
-        Some(list)
+        Some(())
     }
 
     // Octets, or sent bits of which a byte holds one.
-    pub(crate) fn octets(&mut self) -> Option<ArrayVec<u8, 14000>> {
-        self.list(2, octet)
+    pub(crate) fn octets(&mut self, octets: &mut ArrayVec<u8, 14000>) -> Option<()> {
+        self.list(2, octet, octets)
     }
 
-    pub(crate) fn soft_bytes(&mut self) -> Option<ArrayVec<i8, 7000>> {
-        self.list(2, soft_byte)
+    pub(crate) fn soft_bytes(&mut self, soft: &mut ArrayVec<i8, 7000>) -> Option<()> {
+        self.list(2, soft_byte, soft)
     }
 
-    pub(crate) fn readings(&mut self) -> Option<ArrayVec<i16, 7000>> {
-        self.list(4, reading)
+    pub(crate) fn readings(&mut self, readings: &mut ArrayVec<i16, 7000>) -> Option<()> {
+        self.list(4, reading, readings)
     }
 }

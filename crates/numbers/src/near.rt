@@ -1,12 +1,14 @@
 // The commands of the near end: sending, and what is sent as points.
 use crate::shown::{MARK, MARK_READING, MOST, Spaced, pattern, print_bits};
 use crate::words::Words;
+use arrayvec::ArrayVec;
 use modes::Refusal;
 use std::io;
 
 pub(crate) fn encode(rt: &impl Print, words: &mut Words) -> Option<io::Result<()>> {
     let train = words.description()?;
-    let octets = words.octets()?;
+    let mut octets = ArrayVec::new();
+    words.octets(&mut octets)?;
     let mut sent = [MARK; MOST];
     let sent = sent.get_mut(..words.room()?)?;
     let refusal = Refusal::answer(&modem::encode(&train, &octets, sent));
@@ -22,7 +24,8 @@ fn print_sent(rt: &impl Print, refusal: u32, sent: &mut [u8]) -> io::Result<()> 
 
 pub(crate) fn ideal(rt: &impl Print, words: &mut Words) -> Option<io::Result<()>> {
     let list = words.list_of_pdus()?;
-    let sent = words.octets()?;
+    let mut sent = ArrayVec::new();
+    words.octets(&mut sent)?;
     let mut i = [MARK_READING; MOST];
     let i = i.get_mut(..words.room()?)?;
     let mut q = [MARK_READING; MOST];

@@ -25,7 +25,7 @@ pub(crate) fn print_bits(rt: &impl Print, bits: &mut [u8]) -> io::Result<()> {
         *bit ^= b'0';
     }
     rt.write_all(bits)?;
-    rt.print("\n")
+    rt.write_all(b"\n")
 }
 
 // Numbers, a blank before each.
