@@ -3,21 +3,28 @@
 use mathlib.Core.Path.{◌≡◌, refl, sym, ◌∙◌, ap, ap₂}
 use mathlib.Core.Bool.{Bool, true, false}
 use mathlib.Core.List.{List}
-use Prim.Native.Nat.{ℕ, ◌+◌, ◌≤◌, ◌<◌}
+use Prim.Native.Nat.{ℕ, zero, suc, ◌+◌, ◌≤◌, ◌<◌}
 use native.Mathlib.Omega.{arith}
 use lib.Dec.{ltb}
-use lib.ListN.{length, get_or, set, length-set, get_or-eq_default}
+use lib.ListN.{length, get_or, set, length-set, get_or-eq_default, replicate}
 use borrow.Author.Tests.{ltb-true, ltb-false}
 use Rattle.laws.proofs.ListLaws.{tabulate_ext, after_set}
 use Rattle.modes.specs.Pdus.{pdu_of, pdus_of}
 
--- the first k of sixteen numbers are those of another sixteen
+-- the first k of sixteen numbers are those of another sixteen, and the rest are 0
 pub record Copied (from : List ℕ) (k : ℕ) (to : List ℕ) : Type 0 where
   pub sixteen : length to ≡ 16
   pub same : (j : ℕ) → j < k → get_or to j 0 ≡ get_or from j 0
+  pub rest : (j : ℕ) → k ≤ j → get_or to j 0 ≡ 0
 
-pub copied_none : (from to : List ℕ) → length to ≡ 16 → Copied from 0 to
-copied_none from to sixteen = record { sixteen = sixteen; same = λ j h. absurd (omega arith) }
+-- zeros, and what stands past their end
+zero_at : (n j : ℕ) → get_or (replicate n zero) j zero ≡ zero
+zero_at zero j = refl
+zero_at (suc n) zero = refl
+zero_at (suc n) (suc j) = zero_at n j
+
+pub copied_none : (from : List ℕ) → Copied from 0 (replicate 16 0)
+copied_none from = record { sixteen = refl; same = λ j h. absurd (omega arith); rest = λ j h. zero_at 16 j }
 
 pub copied_again : (from : List ℕ) (k : ℕ) (to : List ℕ) (x : ℕ) → Copied from k to → k < 16 → x ≡ get_or from k 0 → Copied from (k + 1) (set to k x)
 copied_again from k to x c h e = record {
@@ -26,6 +33,7 @@ copied_again from k to x c h e = record {
       after_set to k x j 0 (get_or from j 0) (omega (arith, c.sixteen))
       (λ here. e ∙ ap (λ (m : ℕ). get_or from m 0) (sym here))
       (λ other. c.same j (omega (arith, other)));
+  rest = λ j hj. after_set to k x j 0 0 (omega (arith, c.sixteen)) (λ here. absurd (omega arith)) (λ _. c.rest j (omega arith));
 }
 
 -- where either the count or the array has come to its end, each number that the count means is the other's

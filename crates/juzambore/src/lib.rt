@@ -3,7 +3,7 @@
 // pointers to sixteen numbers; lent buffers do not overlap.
 #![tactic(auto)]
 
-ghost use Rattle.std.specs.Prelude.{◌≡◌, ◌≤◌, eqb};
+ghost use Rattle.std.specs.Prelude.{◌≡◌, ◌≤◌, ℕ, eqb, get_or};
 ghost use Rattle.modes.specs.Kinds.{kind_of};
 ghost use Rattle.modes.specs.Pdus.{pdus_of};
 ghost use Rattle.modes.specs.Passed.{told};
@@ -39,7 +39,8 @@ pub struct JuzamboreAnswer {
 
 // The PDUs by a count and two arrays of sixteen, as C lends them. The arrays are not copied whole: no number past the count is read.
 fn listed(count: u32, modes: &[u32; 16], lengths: &[u32; 16]) -> PduList
-    ensures { told result ≡ pdus_of count modes.now lengths.now }
+    ensures told { told result ≡ pdus_of count modes.now lengths.now }
+    ensures rest { (j : ℕ) → count ≤ j → (get_or result.modes j 0 ≡ 0) × (get_or result.lengths j 0 ≡ 0) }
 {
     let mut list = PduList {
         count,
